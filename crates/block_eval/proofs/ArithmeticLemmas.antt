@@ -9,7 +9,7 @@ use Rattle.typed_trees.specs.TypedTree.{arithmetic, negated, scaled, NumberExprO
 use Rattle.typed_trees.specs.declared.tree.TheConstants.{MILLIONTHS}
 use Rattle.row_eval.specs.Outcome.{computed, number_outcome}
 use Rattle.block_eval.specs.declared.bounded.Bounded.{Bounded}
-use Rattle.block_eval.specs.declared.columns.Column.{Column}
+use Rattle.block_eval.specs.declared.columns.BlockColumn.{BlockColumn}
 use Rattle.block_eval.specs.Bounded.{AreJoined, GivesBounded, IsSame}
 use Rattle.block_eval.specs.Bounds.{IsWithinKnown}
 use Rattle.block_eval.specs.Lanes.{number_lane}
@@ -19,7 +19,7 @@ abbrev pub computed_of : ArithmeticOperator → (List CellValue → Option (Opti
 computed_of o f g cells = option_and_then (λ x. option_and_then (λ y. computed o x y) (g cells)) (f cells)
 
 -- numbers that are joined are there on each wanted row where those are that they are joined of
-joined-gives : (o : ArithmeticOperator) (f g : List CellValue → Option (Option ℤ)) (columns : List Column) (wanted : List Bool) (l r v : Bounded)
+joined-gives : (o : ArithmeticOperator) (f g : List CellValue → Option (Option ℤ)) (columns : List BlockColumn) (wanted : List Bool) (l r v : Bounded)
     → GivesBounded f columns wanted l → GivesBounded g columns wanted r → AreJoined o l r wanted v → GivesBounded (computed_of o f g) columns wanted v
 joined-gives o f g columns wanted l r v left right is = record {
   numbers = record {
@@ -33,14 +33,14 @@ joined-gives o f g columns wanted l r v left right is = record {
 }
 
 -- the same number on each row
-pub same-gives : (lane : Option ℤ) (columns : List Column) (wanted : List Bool) (v : Bounded) → IsSame lane v → GivesBounded (λ cells. Some lane) columns wanted v
+pub same-gives : (lane : Option ℤ) (columns : List BlockColumn) (wanted : List Bool) (v : Bounded) → IsSame lane v → GivesBounded (λ cells. Some lane) columns wanted v
 same-gives lane columns wanted v is = record {
   numbers = record { each = λ row cells h at. ap (λ n. Some n) (sym (is.each row)); long = is.long _ };
   within = λ row cells h at. subst (IsWithinKnown v.bounds) (sym (is.each row)) is.within;
 }
 
 -- functions that make the same of each row
-gives-as : (f g : List CellValue → Option (Option ℤ)) (columns : List Column) (wanted : List Bool) (v : Bounded) → ((cells : List CellValue) → g cells ≡ f cells)
+gives-as : (f g : List CellValue → Option (Option ℤ)) (columns : List BlockColumn) (wanted : List Bool) (v : Bounded) → ((cells : List CellValue) → g cells ≡ f cells)
     → GivesBounded f columns wanted v → GivesBounded g columns wanted v
 gives-as f g columns wanted v same is = record {
   numbers = record { each = λ row cells h at. same cells ∙ is.numbers.each row cells h at; long = is.numbers.long };
@@ -48,13 +48,13 @@ gives-as f g columns wanted v same is = record {
 }
 
 -- expressions that have one value on all rows
-pub number-same : (lane : Option ℤ) (e t : NumberExprOf) (columns : List Column) (wanted : List Bool) (v : Bounded) → e ≡ t → ((cells : List CellValue) → number_outcome e cells ≡ Some lane)
+pub number-same : (lane : Option ℤ) (e t : NumberExprOf) (columns : List BlockColumn) (wanted : List Bool) (v : Bounded) → e ≡ t → ((cells : List CellValue) → number_outcome e cells ≡ Some lane)
     → IsSame lane v → GivesBounded (number_outcome t) columns wanted v
 number-same lane e t columns wanted v tree each is =
     subst (λ x. GivesBounded (number_outcome x) columns wanted v) tree (gives-as (λ cells. Some lane) (number_outcome e) columns wanted v each (same-gives lane columns wanted v is))
 
 -- the outcome of an operator
-pub arithmetic-is : (o : ArithmeticOperator) (l r t : NumberExprOf) (columns : List Column) (wanted : List Bool) (a b v : Bounded) → arithmetic o l r ≡ t
+pub arithmetic-is : (o : ArithmeticOperator) (l r t : NumberExprOf) (columns : List BlockColumn) (wanted : List Bool) (a b v : Bounded) → arithmetic o l r ≡ t
     → GivesBounded (number_outcome l) columns wanted a → GivesBounded (number_outcome r) columns wanted b → AreJoined o a b wanted v → GivesBounded (number_outcome t) columns wanted v
 arithmetic-is o l r t columns wanted a b v tree left right is =
     subst (λ x. GivesBounded (number_outcome x) columns wanted v) tree (joined-gives o (number_outcome l) (number_outcome r) columns wanted a b v left right is)
@@ -74,19 +74,19 @@ scaled-computed m (Some None) = refl
 scaled-computed m (Some (Some n)) = refl
 
 -- the numbers with the other sign
-opposite-gives : (f : List CellValue → Option (Option ℤ)) (columns : List Column) (wanted : List Bool) (zero a v : Bounded) → IsSame (Some (pos 0)) zero → GivesBounded f columns wanted a
+opposite-gives : (f : List CellValue → Option (Option ℤ)) (columns : List BlockColumn) (wanted : List Bool) (zero a v : Bounded) → IsSame (Some (pos 0)) zero → GivesBounded f columns wanted a
     → AreJoined operators.Sub zero a wanted v → GivesBounded (λ cells. option_map (option_map neg_ℤ) (f cells)) columns wanted v
 opposite-gives f columns wanted zero a v same gives is =
     gives-as (computed_of operators.Sub (λ cells. Some (Some (pos 0))) f) (λ cells. option_map (option_map neg_ℤ) (f cells)) columns wanted v (λ cells. negated-computed (f cells))
     (joined-gives operators.Sub (λ cells. Some (Some (pos 0))) f columns wanted zero a v (same-gives (Some (pos 0)) columns wanted zero same) gives is)
 
-pub number-negated : (e t : NumberExprOf) (columns : List Column) (wanted : List Bool) (zero a v : Bounded) → negated e ≡ t → IsSame (Some (pos 0)) zero
+pub number-negated : (e t : NumberExprOf) (columns : List BlockColumn) (wanted : List Bool) (zero a v : Bounded) → negated e ≡ t → IsSame (Some (pos 0)) zero
     → GivesBounded (number_outcome e) columns wanted a → AreJoined operators.Sub zero a wanted v → GivesBounded (number_outcome t) columns wanted v
 number-negated e t columns wanted zero a v tree same gives is =
     subst (λ x. GivesBounded (number_outcome x) columns wanted v) tree (opposite-gives (number_outcome e) columns wanted zero a v same gives is)
 
 -- integers as decimals, in millionths
-pub number-scaled : (e t : NumberExprOf) (columns : List Column) (wanted : List Bool) (millionths a v : Bounded) → scaled e ≡ t → IsSame (Some (pos MILLIONTHS)) millionths
+pub number-scaled : (e t : NumberExprOf) (columns : List BlockColumn) (wanted : List Bool) (millionths a v : Bounded) → scaled e ≡ t → IsSame (Some (pos MILLIONTHS)) millionths
     → GivesBounded (number_outcome e) columns wanted a → AreJoined operators.Mul a millionths wanted v → GivesBounded (number_outcome t) columns wanted v
 number-scaled e t columns wanted millionths a v tree same gives is =
     let f = number_outcome e in

@@ -9,7 +9,7 @@ use Rattle.block_summary.specs.declared.bounds.Bounds.{Bounds}
 use Rattle.typed_trees.specs.declared.operator.ArithmeticOperator.{ArithmeticOperator}
 use Rattle.typed_trees.specs.declared.operator.ArithmeticOperator.TheVariants.{Add, Sub, Mul, Div, Mod}
 use Rattle.row_eval.specs.Outcome.{computed, operation}
-use Rattle.block_lanes.specs.Lanes.{AreComputed, AreComputedFitting, LanesFit}
+use Rattle.number_kernels.specs.Lanes.{AreComputed, AreComputedFitting, LanesFit}
 use Rattle.block_eval.specs.declared.bounded.Bounded.{Bounded}
 use Rattle.block_eval.specs.Bounded.{joined_bounds, AreJoined}
 use Rattle.block_eval.specs.Bounds.{bounds_of, difference_bounds, product_bounds, sum_bounds, AreFitting, Fit, IsBetween, LiesWithin, IsWithinKnown}

@@ -17,12 +17,12 @@ use Rattle.row_eval.specs.declared.truth.Truth.{Truth}
 use Rattle.row_eval.specs.Comparison.{compared, is_among, is_equal}
 use Rattle.row_eval.specs.Logic.{truth_of}
 use Rattle.block_eval.specs.declared.bounded.Bounded.{Bounded}
-use Rattle.block_eval.specs.declared.columns.Column.{Column}
-use Rattle.text_lanes.specs.declared.texts.Texts.{Texts}
+use Rattle.block_eval.specs.declared.columns.BlockColumn.{BlockColumn}
+use Rattle.text_kernels.specs.declared.texts.Texts.{Texts}
 use Rattle.block_eval.specs.Bounded.{GivesBounded}
 use Rattle.block_eval.specs.Items.{slot_of, AreFoundAmong, AreSlotted, HaveNearItems, IsNearItem}
 use Rattle.block_eval.specs.Lanes.{GivesTruths}
-use Rattle.text_lanes.specs.Texts.{AreAmong}
+use Rattle.text_kernels.specs.Texts.{AreAmong}
 use Rattle.block_eval.specs.Texts.{GivesTexts}
 use Rattle.block_eval.proofs.LogicLemmas.{wanted_within}
 
@@ -104,7 +104,7 @@ slot-entered numbers slots i slot v so_far is within some =
     (slot-kept slots slot v (slot_of (get_or numbers i (pos 0))) within some (λ other. absurd (other (sym is))))
 
 -- ---- values that are there on each wanted row
-pub numbers-among : (f : List CellValue → Option (Option ℤ)) (columns : List Column) (wanted : List Bool) (v : Bounded) (items : List (Option ℤ)) (ts : List Truth) → GivesBounded f columns wanted v
+pub numbers-among : (f : List CellValue → Option (Option ℤ)) (columns : List BlockColumn) (wanted : List Bool) (v : Bounded) (items : List (Option ℤ)) (ts : List Truth) → GivesBounded f columns wanted v
     → AreFoundAmong v items (length wanted) ts → GivesTruths (λ cells. option_map (λ x. truth_of (is_among int_cmp x items)) (f cells)) columns wanted ts
 numbers-among f columns wanted v items ts gives is = record {
   each = λ row cells h at.
@@ -113,7 +113,7 @@ numbers-among f columns wanted v items ts gives is = record {
   long = is.long;
 }
 
-pub texts-among : (f : List CellValue → Option (List ℕ)) (columns : List Column) (wanted : List Bool) (v : Texts) (items : List (Option (List ℕ))) (ts : List Truth) → GivesTexts f columns wanted v
+pub texts-among : (f : List CellValue → Option (List ℕ)) (columns : List BlockColumn) (wanted : List Bool) (v : Texts) (items : List (Option (List ℕ))) (ts : List Truth) → GivesTexts f columns wanted v
     → AreAmong v items wanted ts → GivesTruths (λ cells. Some (truth_of (is_among (slice_cmp nat_cmp) (f cells) items))) columns wanted ts
 texts-among f columns wanted v items ts gives is = record {
   each = λ row cells h at.

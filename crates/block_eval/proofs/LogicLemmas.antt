@@ -9,9 +9,9 @@ use Rattle.row_eval.specs.Logic.{and_then, greatest, least, opposite, or_then}
 use Rattle.cell_types.specs.Value.{CellValue}
 use Rattle.typed_trees.specs.TypedTree.{TruthExprOf}
 use Rattle.row_eval.specs.Outcome.{truth_outcome}
-use Rattle.block_eval.specs.declared.columns.Column.{Column}
+use Rattle.block_eval.specs.declared.columns.BlockColumn.{BlockColumn}
 use Rattle.block_eval.specs.Columns.{IsRowAt}
-use Rattle.summary_eval.specs.Known.{IsKnown}
+use Rattle.zone_maps.specs.Known.{IsKnown}
 use Rattle.block_eval.specs.Lanes.{truth_lane, AreAsked, AreOutcomes, AreOutcomesWithin, GivesTruths, GivesTruthsWithin, HasTruths, IsWanted}
 use Rattle.block_summary.specs.Ranges.{RangeOf}
 
@@ -34,7 +34,7 @@ or_then-truths Null b right h = ap (or_then Null) (h (λ e. cc))
 or_then-truths False b right h = ap (or_then False) (h (λ e. cc))
 
 -- `and`
-pub both-gives : (f g : List CellValue → Option Truth) (ranges : List RangeOf) (columns : List Column) (wanted asked : List Bool) (ls rs ts : List Truth) → GivesTruthsWithin f ranges columns wanted ls → AreAsked wanted ls False asked → GivesTruthsWithin g ranges columns asked rs
+pub both-gives : (f g : List CellValue → Option Truth) (ranges : List RangeOf) (columns : List BlockColumn) (wanted asked : List Bool) (ls rs ts : List Truth) → GivesTruthsWithin f ranges columns wanted ls → AreAsked wanted ls False asked → GivesTruthsWithin g ranges columns asked rs
     → HasTruths (length rs) (λ row. least (truth_lane ls row) (truth_lane rs row)) ts
     → GivesTruthsWithin (λ cells. option_and_then (λ x. and_then x (g cells)) (f cells)) ranges columns wanted ts
 both-gives f g ranges columns wanted asked ls rs ts left are right has =
@@ -48,7 +48,7 @@ both-gives f g ranges columns wanted asked ls rs ts left are right has =
     }
 
 -- `or`
-pub either-gives : (f g : List CellValue → Option Truth) (ranges : List RangeOf) (columns : List Column) (wanted asked : List Bool) (ls rs ts : List Truth) → GivesTruthsWithin f ranges columns wanted ls → AreAsked wanted ls True asked → GivesTruthsWithin g ranges columns asked rs
+pub either-gives : (f g : List CellValue → Option Truth) (ranges : List RangeOf) (columns : List BlockColumn) (wanted asked : List Bool) (ls rs ts : List Truth) → GivesTruthsWithin f ranges columns wanted ls → AreAsked wanted ls True asked → GivesTruthsWithin g ranges columns asked rs
     → HasTruths (length rs) (λ row. greatest (truth_lane ls row) (truth_lane rs row)) ts
     → GivesTruthsWithin (λ cells. option_and_then (λ x. or_then x (g cells)) (f cells)) ranges columns wanted ts
 either-gives f g ranges columns wanted asked ls rs ts left are right has =
@@ -62,7 +62,7 @@ either-gives f g ranges columns wanted asked ls rs ts left are right has =
     }
 
 -- `not`
-pub opposite-gives : (f : List CellValue → Option Truth) (ranges : List RangeOf) (columns : List Column) (wanted : List Bool) (ones ts : List Truth) → GivesTruthsWithin f ranges columns wanted ones → HasTruths (length ones) (λ row. opposite (truth_lane ones row)) ts
+pub opposite-gives : (f : List CellValue → Option Truth) (ranges : List RangeOf) (columns : List BlockColumn) (wanted : List Bool) (ones ts : List Truth) → GivesTruthsWithin f ranges columns wanted ones → HasTruths (length ones) (λ row. opposite (truth_lane ones row)) ts
     → GivesTruthsWithin (λ cells. option_map opposite (f cells)) ranges columns wanted ts
 opposite-gives f ranges columns wanted ones ts is has = record {
   each = λ row cells h at within_ranges.
@@ -72,7 +72,7 @@ opposite-gives f ranges columns wanted ones ts is has = record {
 }
 
 -- lanes of each row are lanes of the wanted ones
-pub all-gives : (f : List CellValue → Option Truth) (g : ℕ → Truth) (columns : List Column) (wanted : List Bool) (ts : List Truth) → HasTruths (length wanted) g ts
+pub all-gives : (f : List CellValue → Option Truth) (g : ℕ → Truth) (columns : List BlockColumn) (wanted : List Bool) (ts : List Truth) → HasTruths (length wanted) g ts
     → ((row : ℕ) (cells : List CellValue) → IsWanted wanted row → IsRowAt columns row cells → f cells ≡ Some (g row)) → GivesTruths f columns wanted ts
 all-gives f g columns wanted ts has is = record {
   each = λ row cells h at. is row cells h at ∙ ap Some (sym (has.each row (wanted_within wanted row h)));
@@ -80,17 +80,17 @@ all-gives f g columns wanted ts has is = record {
 }
 
 -- a truth that depends on no row
-pub same-gives : (e t : TruthExprOf) (truth : Truth) (columns : List Column) (wanted : List Bool) (ts : List Truth) → e ≡ t → ((cells : List CellValue) → truth_outcome e cells ≡ Some truth)
+pub same-gives : (e t : TruthExprOf) (truth : Truth) (columns : List BlockColumn) (wanted : List Bool) (ts : List Truth) → e ≡ t → ((cells : List CellValue) → truth_outcome e cells ≡ Some truth)
     → HasTruths (length wanted) (λ row. truth) ts → AreOutcomes t columns wanted ts
 same-gives e t truth columns wanted ts tree is has =
     subst (λ x. AreOutcomes x columns wanted ts) tree (all-gives (truth_outcome e) (λ row. truth) columns wanted ts has (λ row cells h at. is cells))
 
 -- lanes of rows are lanes of rows within ranges
-pub within-gives : (e : TruthExprOf) (ranges : List RangeOf) (columns : List Column) (wanted : List Bool) (ts : List Truth) → AreOutcomes e columns wanted ts → AreOutcomesWithin e ranges columns wanted ts
+pub within-gives : (e : TruthExprOf) (ranges : List RangeOf) (columns : List BlockColumn) (wanted : List Bool) (ts : List Truth) → AreOutcomes e columns wanted ts → AreOutcomesWithin e ranges columns wanted ts
 within-gives e ranges columns wanted ts are = record { each = λ row cells h at within_ranges. are.each row cells h at; long = are.long }
 
 -- where no row is wanted, any truths are right
-pub none-gives : (f : List CellValue → Option Truth) (ranges : List RangeOf) (columns : List Column) (wanted : List Bool) (truth : Truth) (ts : List Truth) → ((row : ℕ) → get_or wanted row false ≡ false)
+pub none-gives : (f : List CellValue → Option Truth) (ranges : List RangeOf) (columns : List BlockColumn) (wanted : List Bool) (truth : Truth) (ts : List Truth) → ((row : ℕ) → get_or wanted row false ≡ false)
     → HasTruths (length wanted) (λ row. truth) ts → GivesTruthsWithin f ranges columns wanted ts
 none-gives f ranges columns wanted truth ts none has = record {
   each = λ row cells h at within_ranges. absurd (false≢true (sym (none row) ∙ h));
@@ -98,7 +98,7 @@ none-gives f ranges columns wanted truth ts none has = record {
 }
 
 -- a truth that the ranges tell
-pub known-gives : (e : TruthExprOf) (truth : Truth) (ranges : List RangeOf) (columns : List Column) (wanted : List Bool) (ts : List Truth) → IsKnown e ranges truth
+pub known-gives : (e : TruthExprOf) (truth : Truth) (ranges : List RangeOf) (columns : List BlockColumn) (wanted : List Bool) (ts : List Truth) → IsKnown e ranges truth
     → HasTruths (length wanted) (λ row. truth) ts → AreOutcomesWithin e ranges columns wanted ts
 known-gives e truth ranges columns wanted ts known has = record {
   each = λ row cells h at within_ranges. known cells within_ranges ∙ ap Some (sym (has.each row (wanted_within wanted row h)));

@@ -14,9 +14,9 @@ use Rattle.row_eval.specs.declared.truth.Truth.{Truth}
 use Rattle.row_eval.specs.Logic.{truth_of_option}
 use Rattle.row_eval.specs.Outcome.{both}
 use Rattle.row_eval.specs.Row.{boolean_in, cell, number_in}
-use Rattle.block_eval.specs.declared.columns.Column.{Column}
-use Rattle.block_lanes.specs.declared.numbers.Numbers as vector
-use Rattle.block_lanes.specs.declared.numbers.Numbers.TheVariants.{Computed}
+use Rattle.block_eval.specs.declared.columns.BlockColumn.{BlockColumn}
+use Rattle.number_kernels.specs.declared.numbers.Numbers as vector
+use Rattle.number_kernels.specs.declared.numbers.Numbers.TheVariants.{Computed}
 use Rattle.block_eval.specs.Columns.{number_at, type_of_kind, unless_null}
 use Rattle.block_eval.specs.Lanes.{comparison, number_lane, truth_in, GivesNumbers, GivesTruths, HasTruths}
 use Rattle.block_eval.specs.declared.packed.Unpacked.{Unpacked}
@@ -25,7 +25,7 @@ use Rattle.block_eval.specs.Packed.{IsUnpackedAt}
 use Rattle.block_eval.proofs.LogicLemmas.{all-gives, wanted_within}
 
 -- the column that is found at a place
-pub found-column : (columns : List Column) (place : ℕ) (found column : Column) → place < length columns → found ≡ get_or columns place found → found ≡ column → slice_get columns place ≡ Some column
+pub found-column : (columns : List BlockColumn) (place : ℕ) (found column : BlockColumn) → place < length columns → found ≡ get_or columns place found → found ≡ column → slice_get columns place ≡ Some column
 found-column columns place found column within e is = slice_get-get_or columns place found within ∙ ap (λ c. Some c) (sym e ∙ is)
 
 -- a day by its number is the day of that number again
@@ -47,7 +47,7 @@ truth-cell true n = refl
 truth-cell false n = refl
 
 -- the numbers of a column of a kind
-pub numbers-give : (columns : List Column) (k : NumberKind) (place : ℕ) (wanted : List Bool) (made : Unpacked) → IsUnpackedAt columns place (type_of_kind k) (length wanted) made
+pub numbers-give : (columns : List BlockColumn) (k : NumberKind) (place : ℕ) (wanted : List Bool) (made : Unpacked) → IsUnpackedAt columns place (type_of_kind k) (length wanted) made
     → GivesBounded (λ cells. Some (cell (number_in k) cells place)) columns wanted (record { numbers = Computed made.values made.nulls; bounds = made.bounds })
 numbers-give columns k place wanted made is = record {
   numbers = record {
@@ -60,7 +60,7 @@ numbers-give columns k place wanted made is = record {
 }
 
 -- the truths of a column
-pub truths-give : (columns : List Column) (place : ℕ) (wanted : List Bool) (made : Unpacked) (ts : List Truth) → IsUnpackedAt columns place Boolean (length wanted) made
+pub truths-give : (columns : List BlockColumn) (place : ℕ) (wanted : List Bool) (made : Unpacked) (ts : List Truth) → IsUnpackedAt columns place Boolean (length wanted) made
     → HasTruths (length wanted) (λ row. truth_in (get_or made.nulls.items row true) (get_or made.values.items row (pos 0))) ts
     → GivesTruths (λ cells. Some (truth_of_option (cell boolean_in cells place))) columns wanted ts
 truths-give columns place wanted made ts is has = record {
@@ -72,7 +72,7 @@ truths-give columns place wanted made ts is has = record {
 }
 
 -- a comparison of numbers that are there on each wanted row
-pub compared-gives : (o : ComparisonOperator) (f g : List CellValue → Option (Option ℤ)) (columns : List Column) (wanted : List Bool) (l r : vector.Numbers) (ts : List Truth)
+pub compared-gives : (o : ComparisonOperator) (f g : List CellValue → Option (Option ℤ)) (columns : List BlockColumn) (wanted : List Bool) (l r : vector.Numbers) (ts : List Truth)
     → GivesNumbers f columns wanted l → GivesNumbers g columns wanted r → HasTruths (length wanted) (λ row. comparison o (number_lane l row) (number_lane r row)) ts
     → GivesTruths (λ cells. both (comparison o) (f cells) (g cells)) columns wanted ts
 compared-gives o f g columns wanted l r ts left right has =

@@ -20,13 +20,13 @@ use Rattle.row_eval.specs.declared.truth.Truth.{Truth}
 use Rattle.row_eval.specs.declared.truth.Truth.TheVariants.{False}
 use Rattle.row_eval.specs.Comparison.{compared, holds, is_equal}
 use Rattle.row_eval.specs.Logic.{truth_of}
-use Rattle.block_eval.specs.declared.columns.Column.{Column}
-use Rattle.block_eval.specs.declared.columns.Column.TheVariants.{Packed}
+use Rattle.block_eval.specs.declared.columns.BlockColumn.{BlockColumn}
+use Rattle.block_eval.specs.declared.columns.BlockColumn.TheVariants.{Packed}
 use Rattle.block_eval.specs.declared.packed.Unpacked.{Unpacked}
 use Rattle.block_eval.specs.Bounds.{LiesWithin, IsWithinKnown}
 use Rattle.block_eval.specs.Columns.{number_at, unless_null}
 use Rattle.block_eval.specs.Packed.{HasNumbersAt, AreNumbersCompared, IsUnpackedAt}
-use Rattle.summary_eval.specs.Known.{comparison_of}
+use Rattle.zone_maps.specs.Known.{comparison_of}
 
 -- ---- the numbers of a column at a place
 
@@ -35,7 +35,7 @@ cell-at type [] row = refl
 cell-at type (n ∷ ns) zero = refl
 cell-at type (n ∷ ns) (suc row) = cell-at type ns row
 
-pub packed-numbers : (columns : List Column) (place : ℕ) (column : Bor (List CellValue)) (type : PackedType) → slice_get columns place ≡ Some (Packed column)
+pub packed-numbers : (columns : List BlockColumn) (place : ℕ) (column : Bor (List CellValue)) (type : PackedType) → slice_get columns place ≡ Some (Packed column)
     → cells_of_type type (numbers_of column.now) ≡ column.now → HasNumbersAt columns place type (numbers_of column.now)
 packed-numbers columns place column type e typed = λ row cells at.
     at.each place (Packed column) e
@@ -78,7 +78,7 @@ known-within (Some b) numbers row have = by (get_or numbers row None) refl
     by None e = tt
     by (Some n) e = have.between row n e
 
-pub unpacked-stand : (columns : List Column) (place : ℕ) (type : PackedType) (rows : ℕ) (cells : List CellValue) (made : Unpacked) → HasNumbersAt columns place type (numbers_of cells)
+pub unpacked-stand : (columns : List BlockColumn) (place : ℕ) (type : PackedType) (rows : ℕ) (cells : List CellValue) (made : Unpacked) → HasNumbersAt columns place type (numbers_of cells)
     → cells_of_type type (numbers_of cells) ≡ cells → length cells ≡ rows → AreUnpacked (numbers_of cells) made.values.items → made.nulls.items ≡ map is_null cells → length made.values.items ≡ rows
     → HaveBounds made.bounds (numbers_of cells) → IsUnpackedAt columns place type rows made
 unpacked-stand columns place type rows cells made has typed size unpacked marks long bounds =

@@ -8,8 +8,8 @@ use Rattle.typed_trees.specs.declared.tree.DatePart.{DatePart}
 use Rattle.typed_trees.specs.declared.tree.DatePart.TheVariants.{Year, Month, Day}
 use Rattle.row_eval.specs.Outcome.{part_in}
 use Rattle.row_eval.specs.Row.{cell, day_in}
-use Rattle.block_lanes.specs.declared.numbers.Numbers.TheVariants.{Computed}
-use Rattle.block_eval.specs.declared.columns.Column.{Column}
+use Rattle.number_kernels.specs.declared.numbers.Numbers.TheVariants.{Computed}
+use Rattle.block_eval.specs.declared.columns.BlockColumn.{BlockColumn}
 use Rattle.block_eval.specs.declared.packed.Unpacked.{Unpacked}
 use Rattle.block_eval.specs.Bounded.{GivesBounded}
 use Rattle.block_eval.specs.Columns.{unless_null}
@@ -26,7 +26,7 @@ part-cell Month false n = refl
 part-cell Day false n = refl
 
 -- a part of each date of a column
-pub parts-give : (part : DatePart) (columns : List Column) (place : ℕ) (wanted : List Bool) (made : Unpacked) (parts : Vec ℤ Global) → IsUnpackedAt columns place Date (length wanted) made
+pub parts-give : (part : DatePart) (columns : List BlockColumn) (place : ℕ) (wanted : List Bool) (made : Unpacked) (parts : Vec ℤ Global) → IsUnpackedAt columns place Date (length wanted) made
     → length parts.items ≡ length made.values.items → ((i : ℕ) → i < length made.values.items → get_or parts.items i (pos 0) ≡ day_part part (get_or made.values.items i (pos 0)))
     → GivesBounded (λ cells. Some (option_map (part_in part) (cell day_in cells place))) columns wanted (record { numbers = Computed parts made.nulls; bounds = None })
 parts-give part columns place wanted made parts is long each =

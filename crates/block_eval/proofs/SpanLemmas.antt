@@ -20,7 +20,7 @@ use Rattle.row_eval.specs.declared.truth.Truth.{Truth}
 use Rattle.row_eval.specs.Comparison.{holds}
 use Rattle.row_eval.specs.Logic.{least, opposite, truth_of}
 use Rattle.row_eval.specs.Outcome.{both, number_outcome}
-use Rattle.block_eval.specs.declared.columns.Column.{Column}
+use Rattle.block_eval.specs.declared.columns.BlockColumn.{BlockColumn}
 use Rattle.block_eval.specs.Lanes.{comparison, AreOutcomes, HasTruths}
 use Rattle.block_eval.specs.Parts.{day_part}
 use Rattle.block_eval.specs.Spans.{in_span, span_comparison, ComparesSpan, IsSpanOf}
@@ -141,7 +141,7 @@ span-says f y b is o (Some n) =
     span-number o b n (int_cmp (f n) y) (lower _ _ (int_ranked n b.least _ refl) (int_ranked (f n) y _ refl) (is.before n) (is.from_least n))
     (upper _ _ (int_ranked n b.greatest _ refl) (int_ranked (f n) y _ refl) (is.after n) (is.to_greatest n))
 
-pub spans-give : (o : ComparisonOperator) (a b : NumberExprOf) (columns : List Column) (column : List CellValue) (span : Bounds) (wanted : List Bool) (ts : List Truth) → ComparesSpan a b columns column span
+pub spans-give : (o : ComparisonOperator) (a b : NumberExprOf) (columns : List BlockColumn) (column : List CellValue) (span : Bounds) (wanted : List Bool) (ts : List Truth) → ComparesSpan a b columns column span
     → length column ≡ length wanted → HasTruths (length (numbers_of column)) (λ row. span_comparison o span (get_or (numbers_of column) row None)) ts → AreOutcomes (typed.compare_numbers o a b) columns wanted ts
 spans-give o a b columns column span wanted ts is size has =
     let n = λ (row : ℕ). get_or (numbers_of column) row None in

@@ -9,8 +9,8 @@ use Rattle.row_eval.specs.declared.truth.Truth.{Truth}
 use Rattle.row_eval.specs.Comparison.{holds, is_among}
 use Rattle.row_eval.specs.Logic.{option_of_truth, truth_of}
 use Rattle.row_eval.specs.Outcome.{both}
-use Rattle.block_eval.specs.declared.columns.Column.{Column}
-use Rattle.block_lanes.specs.declared.numbers.Numbers.{Numbers}
+use Rattle.block_eval.specs.declared.columns.BlockColumn.{BlockColumn}
+use Rattle.number_kernels.specs.declared.numbers.Numbers.{Numbers}
 use Rattle.block_eval.specs.Items.{AreFoundAmong}
 use Rattle.block_eval.specs.Lanes.{comparison, number_lane, truth_lane, GivesTruthsWithin, HasTruths}
 use Rattle.block_eval.specs.Truths.{number_of_truth, truth_comparison, AreTruthNumbers}
@@ -52,7 +52,7 @@ numbers-among xs ts v items numbers are e has = record {
 }
 
 -- truths that are there on each wanted row
-pub compared-gives : (o : ComparisonOperator) (f g : List CellValue → Option Truth) (ranges : List RangeOf) (columns : List Column) (wanted : List Bool) (ls rs xs ys ts : List Truth) → xs ≡ ls → ys ≡ rs
+pub compared-gives : (o : ComparisonOperator) (f g : List CellValue → Option Truth) (ranges : List RangeOf) (columns : List BlockColumn) (wanted : List Bool) (ls rs xs ys ts : List Truth) → xs ≡ ls → ys ≡ rs
     → GivesTruthsWithin f ranges columns wanted ls → GivesTruthsWithin g ranges columns wanted rs → HasTruths (length ys) (λ row. truth_comparison o (truth_lane xs row) (truth_lane ys row)) ts
     → GivesTruthsWithin (λ cells. both (truth_comparison o) (f cells) (g cells)) ranges columns wanted ts
 compared-gives o f g ranges columns wanted ls rs xs ys ts e d left right has = record {
@@ -66,7 +66,7 @@ compared-gives o f g ranges columns wanted ls rs xs ys ts e d left right has = r
   long = has.long ∙ ap length d ∙ right.long;
 }
 
-pub among-gives : (f : List CellValue → Option Truth) (ranges : List RangeOf) (columns : List Column) (wanted : List Bool) (xs ys ts : List Truth) (items : List (Option Bool)) → ys ≡ xs → GivesTruthsWithin f ranges columns wanted xs
+pub among-gives : (f : List CellValue → Option Truth) (ranges : List RangeOf) (columns : List BlockColumn) (wanted : List Bool) (xs ys ts : List Truth) (items : List (Option Bool)) → ys ≡ xs → GivesTruthsWithin f ranges columns wanted xs
     → HasTruths (length ys) (λ row. truth_among items (truth_lane ys row)) ts → GivesTruthsWithin (λ cells. option_map (truth_among items) (f cells)) ranges columns wanted ts
 among-gives f ranges columns wanted xs ys ts items e gives has = record {
   each = λ row cells h at within_ranges.

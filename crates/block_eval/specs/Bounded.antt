@@ -5,7 +5,7 @@ use Rattle.typed_trees.specs.declared.operator.ArithmeticOperator.{ArithmeticOpe
 use Rattle.row_eval.specs.Outcome.{computed}
 use Rattle.block_summary.specs.declared.bounds.Bounds.{Bounds}
 use Rattle.block_eval.specs.declared.bounded.Bounded.{Bounded}
-use Rattle.block_eval.specs.declared.columns.Column.{Column}
+use Rattle.block_eval.specs.declared.columns.BlockColumn.{BlockColumn}
 use Rattle.block_eval.specs.Bounds.{bounds_of, AreFitting, IsWithinKnown}
 use Rattle.block_eval.specs.Columns.{IsRowAt}
 use Rattle.block_eval.specs.Lanes.{number_lane, AreLong, GivesNumbers, IsWanted}
@@ -15,7 +15,7 @@ abbrev pub IsLaneWithin : Bounded → ℕ → Type 0
 IsLaneWithin v row = IsWithinKnown v.bounds (number_lane v.numbers row)
 
 -- for each wanted row the lane is what f makes of its cells, which is no fault, and lies between the bounds
-pub record GivesBounded (f : List CellValue → Option (Option ℤ)) (columns : List Column) (wanted : List Bool) (v : Bounded) : Type 0 where
+pub record GivesBounded (f : List CellValue → Option (Option ℤ)) (columns : List BlockColumn) (wanted : List Bool) (v : Bounded) : Type 0 where
   pub numbers : GivesNumbers f columns wanted v.numbers
   pub within : (row : ℕ) (cells : List CellValue) → IsWanted wanted row → IsRowAt columns row cells → IsLaneWithin v row
 

@@ -1,13 +1,13 @@
 -- The rows of a block, from its columns.
-pub use Rattle.block_lanes.specs.Lanes.{number_at, unless_null}
+pub use Rattle.number_kernels.specs.Lanes.{number_at, unless_null}
 use Rattle.std.specs.Prelude.{◌≡◌, ℕ, Some, List, slice_get, slice_index_or}
 use Rattle.cell_types.specs.Value.{CellValue, null}
 use Rattle.block_summary.specs.declared.number.PackedType.{PackedType}
 use Rattle.block_summary.specs.declared.number.PackedType.TheVariants.{Date, Decimal, Integer}
 use Rattle.typed_trees.specs.declared.tree.NumberKind.{NumberKind}
 use Rattle.typed_trees.specs.declared.tree.NumberKind.TheVariants as kinds
-use Rattle.block_eval.specs.declared.columns.Column.{Column}
-use Rattle.block_eval.specs.declared.columns.Column.TheVariants.{Packed, Texts}
+use Rattle.block_eval.specs.declared.columns.BlockColumn.{BlockColumn}
+use Rattle.block_eval.specs.declared.columns.BlockColumn.TheVariants.{Packed, Texts}
 
 -- the type of the packed numbers of a kind
 abbrev pub type_of_kind : NumberKind → PackedType
@@ -16,10 +16,10 @@ type_of_kind kinds.Decimal = Decimal
 type_of_kind kinds.Date = Date
 
 -- the cell of a row
-abbrev pub cell_in_column : Column → ℕ → CellValue
+abbrev pub cell_in_column : BlockColumn → ℕ → CellValue
 cell_in_column (Packed column) row = slice_index_or column.now row null
 cell_in_column (Texts texts) row = slice_index_or texts.now row null
 
 -- cells that are those of a row, in each column
-pub record IsRowAt (columns : List Column) (row : ℕ) (cells : List CellValue) : Type 0 where
-  pub each : (place : ℕ) (column : Column) → slice_get columns place ≡ Some column → slice_get cells place ≡ Some (cell_in_column column row)
+pub record IsRowAt (columns : List BlockColumn) (row : ℕ) (cells : List CellValue) : Type 0 where
+  pub each : (place : ℕ) (column : BlockColumn) → slice_get columns place ≡ Some column → slice_get cells place ≡ Some (cell_in_column column row)

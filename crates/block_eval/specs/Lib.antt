@@ -1,9 +1,9 @@
-pub use Rattle.block_lanes.specs.Arithmetic
+pub use Rattle.number_kernels.specs.Arithmetic
 pub use Rattle.block_summary.specs.Types
 pub use Rattle.row_eval.specs.Comparison
 pub use Rattle.row_eval.specs.Logic
 pub use Rattle.row_eval.specs.Outcome
-pub use Rattle.summary_eval.specs.Known
+pub use Rattle.zone_maps.specs.Known
 pub mod Bounds
 pub mod Columns
 pub mod Lanes

@@ -5,19 +5,19 @@ use Rattle.typed_trees.specs.declared.operator.ComparisonOperator.{ComparisonOpe
 use Rattle.block_summary.specs.Types.{cell_of}
 use Rattle.block_summary.specs.declared.number.PackedType.{PackedType}
 use Rattle.row_eval.specs.declared.truth.Truth.{Truth}
-use Rattle.block_eval.specs.declared.columns.Column.{Column}
+use Rattle.block_eval.specs.declared.columns.BlockColumn.{BlockColumn}
 use Rattle.block_eval.specs.declared.packed.Unpacked.{Unpacked}
 use Rattle.block_eval.specs.Bounds.{IsWithinKnown}
 use Rattle.block_eval.specs.Columns.{number_at, IsRowAt}
 use Rattle.block_eval.specs.Lanes.{comparison, HasTruths}
 
 -- the numbers stand, as cells of a type, at a place of the rows
-abbrev pub HasNumbersAt : List Column → ℕ → PackedType → List (Option ℤ) → Type 0
+abbrev pub HasNumbersAt : List BlockColumn → ℕ → PackedType → List (Option ℤ) → Type 0
 HasNumbersAt columns place type numbers =
     (row : ℕ) (cells : List CellValue) → IsRowAt columns row cells → slice_get cells place ≡ Some (cell_of type (slice_index_or numbers row None))
 
 -- numbers stand, as cells of a type, at a place of the rows, each with a mark that it is null, and lie between the bounds where such are known
-pub record IsUnpackedAt (columns : List Column) (place : ℕ) (type : PackedType) (rows : ℕ) (made : Unpacked) : Type 0 where
+pub record IsUnpackedAt (columns : List BlockColumn) (place : ℕ) (type : PackedType) (rows : ℕ) (made : Unpacked) : Type 0 where
   pub stand : (row : ℕ) (cells : List CellValue) → row < rows → IsRowAt columns row cells → slice_get cells place ≡ Some (cell_of type (number_at made.values.items made.nulls.items row))
   pub within : (row : ℕ) → row < rows → IsWithinKnown made.bounds (number_at made.values.items made.nulls.items row)
   pub values_long : length made.values.items ≡ rows

@@ -9,8 +9,8 @@ use Rattle.typed_trees.specs.TypedTree.{NumberExprOf}
 use Rattle.row_eval.specs.declared.truth.Truth.{Truth}
 use Rattle.row_eval.specs.Logic.{least, opposite}
 use Rattle.row_eval.specs.Outcome.{number_outcome}
-use Rattle.summary_eval.specs.Known.{IsConstantNumber}
-use Rattle.block_eval.specs.declared.columns.Column.{Column}
+use Rattle.zone_maps.specs.Known.{IsConstantNumber}
+use Rattle.block_eval.specs.declared.columns.BlockColumn.{BlockColumn}
 use Rattle.block_eval.specs.Columns.{IsRowAt}
 use Rattle.block_eval.specs.Lanes.{comparison}
 
@@ -35,7 +35,7 @@ pub record IsSpanOf (f : ℤ → ℤ) (y : ℤ) (b : Bounds) : Type 0 where
   pub after : (n : ℤ) → b.greatest <ℤ n → y <ℤ f n
 
 -- the left side is made of the numbers of a column, and the right side is the constant of which the span is
-pub record ComparesSpan (left right : NumberExprOf) (columns : List Column) (column : List CellValue) (span : Bounds) : Type 0 where
+pub record ComparesSpan (left right : NumberExprOf) (columns : List BlockColumn) (column : List CellValue) (span : Bounds) : Type 0 where
   pub f : ℤ → ℤ
   pub constant : ℤ
   pub left_is : (row : ℕ) (cells : List CellValue) → IsRowAt columns row cells → number_outcome left cells ≡ Some (option_map f (slice_index_or (numbers_of column) row None))

@@ -5,7 +5,7 @@ use Rattle.std.specs.Ordering.{bool_cmp}
 use Rattle.typed_trees.specs.declared.operator.ComparisonOperator.{ComparisonOperator}
 use Rattle.row_eval.specs.Comparison.{compared, holds}
 use Rattle.row_eval.specs.Logic.{option_of_truth, truth_of}
-use Rattle.block_lanes.specs.declared.numbers.Numbers.{Numbers}
+use Rattle.number_kernels.specs.declared.numbers.Numbers.{Numbers}
 use Rattle.block_eval.specs.Lanes.{number_lane, truth_lane, AreLong}
 
 abbrev pub number_of_truth : Bool → ℤ

@@ -4,14 +4,14 @@ ghost use Rattle.std.specs.Prelude.{◌≡◌, ℕ, false, IfOk, IsTrue, slice_i
 ghost use Rattle.typed_trees.specs.TypedTree.{truth_view};
 ghost use Rattle.block_eval.specs.Lanes.{AreOutcomesWithin};
 
-use crate::columns::Column;
+use crate::columns::BlockColumn;
 use crate::leaf::eval_leaf;
 use crate::truths::{compare_truths, truths_among};
-use block_lanes::{Fallback, conjunction, disjunction, negation, open_rows, same_truth};
+use number_kernels::{Fallback, conjunction, disjunction, negation, open_rows, same_truth};
 use block_summary::Summary;
 use row_eval::Truth;
 use std::alloc::Global;
-use summary_eval::known_truth;
+use zone_maps::known_truth;
 use typed_trees::TruthExpr;
 
 /// Returns the truths of a condition that has no condition as a part on the wanted rows of a block. If the ranges of the block decide its truth, no
@@ -19,7 +19,7 @@ use typed_trees::TruthExpr;
 fn leaf_truths(
     alloc: Global,
     expr: &TruthExpr,
-    columns: &[Column<'_>],
+    columns: &[BlockColumn<'_>],
     summary: &Summary,
     wanted: &[bool],
 ) -> Result<Vec<Truth>, Fallback>
@@ -52,7 +52,7 @@ fn none_is_wanted(wanted: &[bool]) -> bool
 pub fn eval_block(
     alloc: Global,
     expr: &TruthExpr,
-    columns: &[Column<'_>],
+    columns: &[BlockColumn<'_>],
     summary: &Summary,
     wanted: &[bool],
 ) -> Result<Vec<Truth>, Fallback>

@@ -6,7 +6,7 @@ ghost use Rattle.block_eval.specs.Bounds.{AreFitting};
 ghost use Rattle.block_eval.specs.Lanes.{AreLong};
 
 use crate::bounds::joined_bounds;
-use block_lanes::{Fallback, Numbers, join, join_fitting};
+use number_kernels::{Fallback, Numbers, join, join_fitting};
 use block_summary::Bounds;
 use std::alloc::Global;
 use typed_trees::ArithmeticOperator;

@@ -5,7 +5,7 @@ use text_columns::TextColumn;
 
 /// The cells of a column, one for each row of the block, as they are retained.
 #[derive(Clone, Copy)]
-pub enum Column<'a> {
+pub enum BlockColumn<'a> {
     /// The cells of a column that has numbers.
     Packed(&'a PackedColumn),
     /// The texts of a column and its nulls.
@@ -15,6 +15,6 @@ pub enum Column<'a> {
 /// The rows of a block that are wanted, with its columns.
 #[derive(Clone, Copy)]
 pub struct WantedRows<'r, 'a> {
-    pub columns: &'r [Column<'a>],
+    pub columns: &'r [BlockColumn<'a>],
     pub wanted: &'r [bool],
 }

@@ -7,7 +7,7 @@ ghost use Rattle.block_eval.specs.Lanes.{AreOutcomesOf};
 use crate::columns::WantedRows;
 use crate::numbers::eval_numbers;
 use crate::spans::{column_and_span, compare_span};
-use block_lanes::{Fallback, compare};
+use number_kernels::{Fallback, compare};
 use row_eval::Truth;
 use std::alloc::Global;
 use typed_trees::{ComparisonOperator, NumberExpr};

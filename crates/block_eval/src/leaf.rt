@@ -4,12 +4,12 @@ ghost use Rattle.std.specs.Prelude.{IfOk};
 ghost use Rattle.typed_trees.specs.TypedTree.{truth_view};
 ghost use Rattle.block_eval.specs.Lanes.{AreOutcomes};
 
-use crate::columns::{Column, WantedRows};
+use crate::columns::{BlockColumn, WantedRows};
 use crate::comparison::compare_numbers;
 use crate::lists::{numbers_in, texts_in};
 use crate::relation::{compare_texts, test_texts};
 use crate::truths::truths_in;
-use block_lanes::{Fallback, same_truth};
+use number_kernels::{Fallback, same_truth};
 use row_eval::{Truth, truth_of};
 use std::alloc::Global;
 use typed_trees::TruthExpr;
@@ -18,7 +18,7 @@ use typed_trees::TruthExpr;
 pub fn eval_leaf(
     alloc: Global,
     expr: &TruthExpr,
-    columns: &[Column<'_>],
+    columns: &[BlockColumn<'_>],
     wanted: &[bool],
 ) -> Result<Vec<Truth>, Fallback>
     ensures { IfOk result

@@ -20,5 +20,5 @@ mod texts;
 mod truths;
 
 pub use block::eval_block;
-pub use block_lanes::Fallback;
-pub use columns::Column;
+pub use number_kernels::Fallback;
+pub use columns::BlockColumn;

@@ -5,14 +5,14 @@ ghost use Rattle.std.specs.Prelude.{IfOk, map};
 ghost use Rattle.typed_trees.specs.TypedTree.{number_in as number_in_of, number_view, optional_text, text_in as text_in_of, text_view};
 ghost use Rattle.block_eval.specs.Lanes.{AreOutcomes};
 
-use crate::columns::Column;
+use crate::columns::BlockColumn;
 use crate::items::among;
 use crate::numbers::bounded_numbers;
 use crate::texts::eval_texts;
-use block_lanes::Fallback;
+use number_kernels::Fallback;
 use row_eval::Truth;
 use std::alloc::Global;
-use text_lanes::texts_among;
+use text_kernels::texts_among;
 use typed_trees::{NumberExpr, TextExpr};
 
 /// Returns whether numbers are in a list, on the wanted rows of a block.
@@ -20,7 +20,7 @@ pub fn numbers_in(
     alloc: Global,
     operand: &NumberExpr,
     items: &[Option<i128>],
-    columns: &[Column<'_>],
+    columns: &[BlockColumn<'_>],
     wanted: &[bool],
 ) -> Result<Vec<Truth>, Fallback>
     ensures { IfOk result (λ truths. AreOutcomes
@@ -36,7 +36,7 @@ pub fn texts_in(
     alloc: Global,
     operand: &TextExpr,
     items: &[Option<String>],
-    columns: &[Column<'_>],
+    columns: &[BlockColumn<'_>],
     wanted: &[bool],
 ) -> Result<Vec<Truth>, Fallback>
     ensures { IfOk result (λ truths. AreOutcomes

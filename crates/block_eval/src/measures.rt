@@ -7,18 +7,18 @@ ghost use Rattle.row_eval.specs.Text.{index_in, length_in};
 ghost use Rattle.block_eval.specs.Bounded.{GivesBounded};
 
 use crate::bounded::Bounded;
-use crate::columns::Column;
+use crate::columns::BlockColumn;
 use crate::texts::eval_texts;
-use block_lanes::Fallback;
+use number_kernels::Fallback;
 use std::alloc::Global;
-use text_lanes::{TextMeasure, measure};
+use text_kernels::{TextMeasure, measure};
 use typed_trees::TextExpr;
 
 /// Returns the lengths of texts, on the wanted rows of a block.
 pub fn lengths_in<'a>(
     alloc: Global,
     text: &TextExpr,
-    columns: &[Column<'_>],
+    columns: &[BlockColumn<'_>],
     wanted: &[bool],
 ) -> Result<Bounded<'a>, Fallback>
     ensures { IfOk result (GivesBounded
@@ -38,7 +38,7 @@ pub fn places_in<'a>(
     alloc: Global,
     text: &TextExpr,
     part: &TextExpr,
-    columns: &[Column<'_>],
+    columns: &[BlockColumn<'_>],
     wanted: &[bool],
 ) -> Result<Bounded<'a>, Fallback>
     ensures { IfOk result (GivesBounded

@@ -8,18 +8,18 @@ ghost use Rattle.block_eval.specs.Bounded.{GivesBounded};
 ghost use Rattle.block_eval.specs.Lanes.{AreNumbers};
 
 use crate::bounded::{Bounded, constant, join_bounded, nulls, same};
-use crate::columns::Column;
+use crate::columns::BlockColumn;
 use crate::measures::{lengths_in, places_in};
 use crate::packed::{Unpacked, type_of_kind, unpacked_at};
 use crate::parts::parts_in;
-use block_lanes::{Fallback, Numbers};
+use number_kernels::{Fallback, Numbers};
 use std::alloc::Global;
 use typed_trees::{ArithmeticOperator, MILLIONTHS, NumberExpr, NumberKind};
 
 /// Returns the numbers of a column of a kind.
 fn numbers_at<'a>(
     alloc: Global,
-    columns: &[Column<'_>],
+    columns: &[BlockColumn<'_>],
     kind: NumberKind,
     place: usize,
     wanted: &[bool],
@@ -43,7 +43,7 @@ fn numbers_at<'a>(
 pub fn bounded_numbers<'a>(
     alloc: Global,
     expr: &NumberExpr,
-    columns: &[Column<'a>],
+    columns: &[BlockColumn<'a>],
     wanted: &[bool],
 ) -> Result<Bounded<'a>, Fallback>
     ensures { IfOk result
@@ -84,7 +84,7 @@ pub fn bounded_numbers<'a>(
 pub fn eval_numbers<'a>(
     alloc: Global,
     expr: &NumberExpr,
-    columns: &[Column<'a>],
+    columns: &[BlockColumn<'a>],
     wanted: &[bool],
 ) -> Result<Numbers<'a>, Fallback>
     ensures { IfOk result (AreNumbers (number_view expr.now) columns.now wanted.now) }

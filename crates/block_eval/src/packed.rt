@@ -7,12 +7,12 @@ ghost use Rattle.block_eval.specs.Columns.{type_of_kind as type_of_number_kind};
 ghost use Rattle.block_eval.specs.Lanes.{truth_lane};
 ghost use Rattle.block_eval.specs.Packed.{AreNumbersCompared, HasNumbersAt, IsUnpackedAt};
 
-use crate::columns::Column;
-use block_lanes::Fallback;
+use crate::columns::BlockColumn;
+use number_kernels::Fallback;
 use block_summary::{Bounds, PackedColumn, PackedType};
 use row_eval::{Truth, truth_of};
 use std::alloc::Global;
-use summary_eval::comparison_of;
+use zone_maps::comparison_of;
 use typed_trees::{ComparisonOperator, NumberKind};
 
 /// Returns the type of the packed numbers of a kind.
@@ -40,7 +40,7 @@ fn are_same(given: PackedType, asked: PackedType) -> bool
 
 /// Returns the column at a place if it is packed, has numbers of this type and `rows` rows.
 pub fn packed_in<'a>(
-    columns: &[Column<'a>],
+    columns: &[BlockColumn<'a>],
     place: usize,
     packed_type: PackedType,
     rows: usize,
@@ -51,7 +51,7 @@ pub fn packed_in<'a>(
         cells_of_type packed_type (numbers_of column.now) ≡ column.now) }
     ensures long { IfSome result (λ column. length column.now ≡ rows) }
 {
-    let Some(Column::Packed(column)) = columns.get(place) else {
+    let Some(BlockColumn::Packed(column)) = columns.get(place) else {
         return None;
     };
     if column.len() != rows || !are_same(column.packed_type(), packed_type) {
@@ -71,7 +71,7 @@ pub struct Unpacked {
 /// Returns the numbers of the column at a place, if it has numbers of this type and `rows` rows.
 pub fn unpacked_at(
     alloc: Global,
-    columns: &[Column<'_>],
+    columns: &[BlockColumn<'_>],
     place: usize,
     packed_type: PackedType,
     rows: usize,

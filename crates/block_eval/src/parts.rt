@@ -8,9 +8,9 @@ ghost use Rattle.block_eval.specs.Bounded.{GivesBounded};
 ghost use Rattle.block_eval.specs.Parts.{day_part};
 
 use crate::bounded::Bounded;
-use crate::columns::Column;
+use crate::columns::BlockColumn;
 use crate::packed::{Unpacked, unpacked_at};
-use block_lanes::{Fallback, Numbers};
+use number_kernels::{Fallback, Numbers};
 use block_summary::PackedType;
 use std::alloc::Global;
 use typed_trees::{DateExpr, DatePart};
@@ -43,7 +43,7 @@ fn parts_at<'a>(
     alloc: Global,
     part: DatePart,
     place: usize,
-    columns: &[Column<'_>],
+    columns: &[BlockColumn<'_>],
     wanted: &[bool],
 ) -> Result<Bounded<'a>, Fallback>
     ensures { IfOk result (GivesBounded
@@ -67,7 +67,7 @@ pub fn parts_in<'a>(
     alloc: Global,
     part: DatePart,
     date: &DateExpr,
-    columns: &[Column<'_>],
+    columns: &[BlockColumn<'_>],
     wanted: &[bool],
 ) -> Result<Bounded<'a>, Fallback>
     ensures { IfOk result (GivesBounded

@@ -6,10 +6,10 @@ ghost use Rattle.block_eval.specs.Lanes.{AreOutcomesOf};
 
 use crate::columns::WantedRows;
 use crate::texts::eval_texts;
-use block_lanes::Fallback;
+use number_kernels::Fallback;
 use row_eval::Truth;
 use std::alloc::Global;
-use text_lanes::{TextRelation, relate};
+use text_kernels::{TextRelation, relate};
 use typed_trees::{ComparisonOperator, TextExpr, TextTest};
 
 /// Returns whether a comparison holds between texts, on the wanted rows of a block.

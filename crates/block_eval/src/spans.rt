@@ -8,13 +8,13 @@ ghost use Rattle.block_eval.specs.Lanes.{HasTruths};
 ghost use Rattle.block_eval.specs.Parts.{day_part};
 ghost use Rattle.block_eval.specs.Spans.{in_span, span_comparison, ComparesSpan, IsSpanOf};
 
-use crate::columns::Column;
+use crate::columns::BlockColumn;
 use crate::packed::{compare_packed, packed_in, type_of_kind};
-use block_lanes::{Fallback, conjunction, negation};
+use number_kernels::{Fallback, conjunction, negation};
 use block_summary::{Bounds, PackedColumn, PackedType};
 use row_eval::Truth;
 use std::alloc::Global;
-use summary_eval::constant_number;
+use zone_maps::constant_number;
 use typed_trees::{ComparisonOperator, DateExpr, DatePart, NumberExpr};
 
 /// Returns the span of one number, if it has 64 bits.
@@ -47,7 +47,7 @@ fn span_of_year(year: i128) -> Option<Bounds>
 pub fn column_and_span<'a>(
     left: &NumberExpr,
     right: &NumberExpr,
-    columns: &[Column<'a>],
+    columns: &[BlockColumn<'a>],
     rows: usize,
 ) -> Option<(&'a PackedColumn, Bounds)>
     ensures span { IfSome result (λ found. ComparesSpan (number_view left.now)

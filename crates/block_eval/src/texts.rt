@@ -4,29 +4,29 @@ ghost use Rattle.std.specs.Prelude.{◌≡◌, ℕ, IfOk};
 ghost use Rattle.typed_trees.specs.TypedTree.{text_view};
 ghost use Rattle.row_eval.specs.Row.{cell, text_in as text_in_cell};
 ghost use Rattle.block_eval.specs.Columns.{cell_in_column};
-ghost use Rattle.text_lanes.specs.Texts.{text_lane, AreTextsLong};
+ghost use Rattle.text_kernels.specs.Texts.{text_lane, AreTextsLong};
 ghost use Rattle.block_eval.specs.Texts.{AreTexts, GivesTexts};
 
-use crate::columns::Column;
-use block_lanes::Fallback;
-use text_lanes::Texts;
+use crate::columns::BlockColumn;
+use number_kernels::Fallback;
+use text_kernels::Texts;
 use typed_trees::TextExpr;
 
 /// Returns the texts of a column of that many rows.
-fn texts_of<'a>(column: Column<'a>, rows: usize) -> Result<Texts<'a>, Fallback>
+fn texts_of<'a>(column: BlockColumn<'a>, rows: usize) -> Result<Texts<'a>, Fallback>
     ensures each { IfOk result (λ v. (row : ℕ)
         → text_in_cell (cell_in_column column.entry row) ≡ text_lane v row) }
     ensures long { IfOk result (AreTextsLong rows) }
 {
     match column {
-        Column::Texts(texts) if texts.len() == rows => Ok(Texts::Cells(texts)),
+        BlockColumn::Texts(texts) if texts.len() == rows => Ok(Texts::Cells(texts)),
         _ => Err(Fallback::Rows),
     }
 }
 
 /// Returns the texts of a column.
 fn texts_in<'a>(
-    columns: &[Column<'a>],
+    columns: &[BlockColumn<'a>],
     place: usize,
     wanted: &[bool],
 ) -> Result<Texts<'a>, Fallback>
@@ -43,7 +43,7 @@ fn texts_in<'a>(
 /// Returns the texts of an expression on the wanted rows of a block.
 pub fn eval_texts<'a>(
     expr: &'a TextExpr,
-    columns: &[Column<'a>],
+    columns: &[BlockColumn<'a>],
     wanted: &[bool],
 ) -> Result<Texts<'a>, Fallback>
     ensures { IfOk result (AreTexts (text_view expr.now) columns.now wanted.now) }

@@ -10,10 +10,10 @@ ghost use Rattle.block_eval.specs.Lanes.{truth_lane, GivesTruths, HasTruths};
 ghost use Rattle.block_eval.specs.Truths.{number_of_truth, truth_comparison, AreTruthNumbers};
 
 use crate::bounded::Bounded;
-use crate::columns::Column;
+use crate::columns::BlockColumn;
 use crate::items::among;
 use crate::packed::{Unpacked, unpacked_at};
-use block_lanes::{Fallback, Numbers, compare, truths_of};
+use number_kernels::{Fallback, Numbers, compare, truths_of};
 use block_summary::PackedType;
 use row_eval::Truth;
 use std::alloc::{AllocError, Global};
@@ -113,7 +113,7 @@ pub fn truths_among(
 /// Returns the truths of a column.
 pub fn truths_in(
     alloc: Global,
-    columns: &[Column<'_>],
+    columns: &[BlockColumn<'_>],
     place: usize,
     wanted: &[bool],
 ) -> Result<Vec<Truth>, Fallback>

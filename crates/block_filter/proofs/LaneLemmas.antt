@@ -4,14 +4,14 @@ use Rattle.std.specs.Prelude.{option_and_then, option_map, if◌then◌else◌, 
 use Rattle.std.proofs.lemmas.Bool.{cases_eq, cases_lt}
 use Rattle.std.proofs.lemmas.List.{get_or_past, get_or_push, get_or_append_left, get_or-map, length_push}
 use Rattle.std.proofs.lemmas.Option.{slice_get-get_or}
-use Rattle.block_eval.specs.declared.columns.Column.{Column}
-use Rattle.block_eval.specs.declared.columns.Column.TheVariants.{Packed}
+use Rattle.block_eval.specs.declared.columns.BlockColumn.{BlockColumn}
+use Rattle.block_eval.specs.declared.columns.BlockColumn.TheVariants.{Packed}
 use Rattle.block_eval.specs.Columns.{cell_in_column}
 use denote.Ref.{Bor}
 use Rattle.block_summary.specs.declared.number.PackedType.{PackedType}
 use Rattle.block_summary.specs.Ranges.{column_of}
 use Rattle.block_summary.specs.Reading.{packed_type_of}
-use Rattle.cell_types.specs.Column.{ColumnOf}
+use Rattle.cell_types.specs.BlockColumn.{ColumnOf}
 use Rattle.cell_types.specs.Datatype.{is_text}
 use Rattle.cell_types.specs.Value.{CellValue, null}
 use Rattle.table_store.specs.Block.{packed_cells, text_cells}
@@ -31,14 +31,14 @@ pub packed_kept : (rows : List (List CellValue)) (place : ℕ) (column : Bor (Li
 packed_kept rows place column are = λ row h. are row h
 
 -- the first columns
-pub record AreFirstColumns (rows : List (List CellValue)) (columns : List Column) (i : ℕ) : Type 0 where
+pub record AreFirstColumns (rows : List (List CellValue)) (columns : List BlockColumn) (i : ℕ) : Type 0 where
   pub long : length columns ≡ i
-  pub each : (place : ℕ) (column : Column) → place < i → IsColumnOf rows place (get_or columns place column)
+  pub each : (place : ℕ) (column : BlockColumn) → place < i → IsColumnOf rows place (get_or columns place column)
 
 pub no_columns_yet : (rows : List (List CellValue)) → AreFirstColumns rows [] 0
 no_columns_yet rows = record { long = refl; each = λ place column h. absurd (omega arith) }
 
-pub one_column_more : (rows : List (List CellValue)) (columns : List Column) (i : ℕ) (column : Column) → IsColumnOf rows i column → AreFirstColumns rows columns i
+pub one_column_more : (rows : List (List CellValue)) (columns : List BlockColumn) (i : ℕ) (column : BlockColumn) → IsColumnOf rows i column → AreFirstColumns rows columns i
     → AreFirstColumns rows (columns ++ column ∷ []) (i + 1)
 one_column_more rows columns i column is so_far = record {
   long = length_push columns column ∙ ap (λ k. k + 1) so_far.long;
@@ -52,7 +52,7 @@ one_column_more rows columns i column is so_far = record {
   ];
 }
 
-pub columns_are : (rows : List (List CellValue)) (columns : List Column) (i : ℕ) → AreFirstColumns rows columns i → AreColumnsOf rows columns
+pub columns_are : (rows : List (List CellValue)) (columns : List BlockColumn) (i : ℕ) → AreFirstColumns rows columns i → AreColumnsOf rows columns
 columns_are rows columns i is row h =
     record {
       each = λ place column at.

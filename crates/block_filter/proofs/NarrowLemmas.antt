@@ -7,7 +7,7 @@ use Rattle.std.proofs.lemmas.Bool.{and_parts}
 use Rattle.std.proofs.lemmas.List.{drop_more, nil_from_length}
 use Rattle.std.proofs.lemmas.List.Elements.{recursion_from_All}
 use Rattle.std.proofs.lemmas.List.Sums.{sum_by-cons}
-use Rattle.cell_types.specs.Column.{ColumnOf}
+use Rattle.cell_types.specs.BlockColumn.{ColumnOf}
 use Rattle.cell_types.specs.Rows.{IsTableRow}
 use Rattle.cell_types.specs.Value.{CellValue}
 use Rattle.typed_trees.specs.declared.tree.TruthExpr.{TruthExpr}
@@ -15,7 +15,7 @@ use Rattle.typed_trees.specs.TypedTree.{boxed_truth, TruthExprOf}
 use Rattle.row_eval.specs.declared.truth.Truth.{Truth}
 use Rattle.row_eval.specs.declared.truth.Truth.TheVariants.{False, Null, True}
 use Rattle.row_eval.specs.Outcome.{truth_outcome}
-use Rattle.block_eval.specs.declared.columns.Column.{Column}
+use Rattle.block_eval.specs.declared.columns.BlockColumn.{BlockColumn}
 use Rattle.block_eval.specs.Lanes.{truth_lane, AreOutcomesWithin}
 use Rattle.block_summary.specs.Ranges.{RangeOf, AreRangesOf}
 use Rattle.query_meaning.specs.Filter.{faults, is_true, passes, passes_each, passing}
@@ -87,7 +87,7 @@ keeps_true False = refl
 keeps_true Null = refl
 
 -- what the truths of a block leave of the rows that were wanted
-module _ (e : TruthExprOf) (schema : List ColumnOf) (rows : List (List CellValue)) (ranges : List RangeOf) (columns : List Column) (was now : List Bool) (truths : List Truth)
+module _ (e : TruthExprOf) (schema : List ColumnOf) (rows : List (List CellValue)) (ranges : List RangeOf) (columns : List BlockColumn) (was now : List Bool) (truths : List Truth)
     (are : AreColumnsOf rows columns) (fit : All (IsTableRow schema) rows) (within : AreRangesOf ranges rows) (outcomes : AreOutcomesWithin e ranges columns was truths)
     (long : length was ≡ length rows) (each : (row : ℕ) → row < length was → get_or now row false ≡ (get_or was row false && keeps_row (truth_lane truths row))) where
   outcome_is : (row : ℕ) → row < length rows → get_or was row false ≡ true → truth_outcome e (get_or rows row []) ≡ Some (truth_lane truths row)

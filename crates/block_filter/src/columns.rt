@@ -2,7 +2,7 @@
 ghost use Rattle.std.specs.Prelude.{◌<◌, IfOk, IfSome, length};
 ghost use Rattle.block_filter.specs.Lanes.{AreColumnsOf, AreTextsOf, IsColumnOf};
 
-use block_eval::Column;
+use block_eval::BlockColumn;
 use std::alloc::{AllocError, Global};
 use table_store::Block;
 use text_columns::TextColumn;
@@ -28,17 +28,17 @@ fn column_at<'a, 't>(
     block: &Block<'t>,
     texts: &'a [Option<TextColumn<'t>>],
     col: usize,
-) -> Option<Column<'a>>
+) -> Option<BlockColumn<'a>>
     requires col { col < length block.now.schema.columns }
     requires texts { AreTextsOf block.now.rows texts.now }
     ensures { IfSome result (IsColumnOf block.now.rows col) }
 {
     block.values_fit();
     if let Some(column) = block.packed(col) {
-        return Some(Column::Packed(column));
+        return Some(BlockColumn::Packed(column));
     }
     match texts.get(col) {
-        Some(Some(texts)) => Some(Column::Texts(texts)),
+        Some(Some(texts)) => Some(BlockColumn::Texts(texts)),
         Some(None) | None => None,
     }
 }
@@ -48,7 +48,7 @@ pub(crate) fn block_columns<'a, 't>(
     alloc: Global,
     block: &Block<'t>,
     texts: &'a [Option<TextColumn<'t>>],
-) -> Result<Vec<Column<'a>>, AllocError>
+) -> Result<Vec<BlockColumn<'a>>, AllocError>
     requires { AreTextsOf block.now.rows texts.now }
     ensures { IfOk result (λ columns. AreColumnsOf block.now.rows columns.items) }
 {

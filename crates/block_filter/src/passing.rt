@@ -11,7 +11,7 @@ ghost use Rattle.block_filter.specs.Passing.{IsNarrowedBy, Narrows};
 
 use crate::columns::{block_columns, block_texts};
 use crate::rows::narrow_by_rows;
-use block_eval::{Column, Fallback, eval_block};
+use block_eval::{BlockColumn, Fallback, eval_block};
 use row_eval::Truth;
 use std::alloc::{AllocError, Global};
 use table_store::Block;
@@ -43,7 +43,7 @@ pub(crate) fn narrow_by(
     alloc: Global,
     condition: &TruthExpr,
     block: &Block<'_>,
-    columns: &[Column<'_>],
+    columns: &[BlockColumn<'_>],
     wanted: &mut [bool],
 ) -> Result<bool, AllocError>
     requires columns { AreColumnsOf block.now.rows columns.now }

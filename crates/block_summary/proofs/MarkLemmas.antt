@@ -6,7 +6,7 @@ use Rattle.std.proofs.lemmas.Int.{clamps, ints}
 use Rattle.std.proofs.lemmas.List.{ext_get_or, get_or-map, get_or-replicate, length-map, length-replicate}
 use Rattle.std.proofs.lemmas.Bool.{false≢true, true≢false}
 use Rattle.block_summary.specs.Cells.{cells_of, number_or_null, sums, AreBelow}
-use Rattle.offset_lanes.specs.Marks.{is_offset_between, AreMarkedBetween}
+use Rattle.frame_of_reference.specs.Marks.{is_offset_between, AreMarkedBetween}
 use Rattle.block_summary.specs.Passing.{is_turned, lies_between, number_passes, unturned, SpansPassing}
 use Rattle.block_summary.specs.declared.bounds.Bounds.{Bounds}
 use Rattle.block_summary.specs.declared.test.Comparison.{Comparison}

@@ -12,7 +12,7 @@ use Rattle.std.proofs.lemmas.Cmp.{int_ranked}
 use Rattle.std.proofs.lemmas.Int.{clamps, ints}
 use Rattle.std.proofs.Math.Bool.{and-true, and-false}
 use Rattle.block_summary.specs.Cells.{number_or_null}
-use Rattle.offset_lanes.specs.Marks.{is_offset_between}
+use Rattle.frame_of_reference.specs.Marks.{is_offset_between}
 use Rattle.block_summary.specs.Passing.{lies_between}
 use Rattle.block_summary.specs.declared.bounds.Bounds.{Bounds}
 

@@ -1,5 +1,5 @@
 -- The cells of a column of integers.
-pub use Rattle.offset_lanes.specs.Offsets.{AreBelow, AreOffsets, AreSums, AreWithin}
+pub use Rattle.frame_of_reference.specs.Offsets.{AreBelow, AreOffsets, AreSums, AreWithin}
 use Rattle.std.specs.Prelude.{◌≡◌, ◌⊎◌, MatchOption, ℕ, ℤ, pos, Bool, true, false, List, [], ◌∷◌, Option, None, Some, ◌+ℤ◌, ◌≤ℤ◌, length, map, slice_index_or}
 use Rattle.block_summary.specs.declared.bounds.Bounds.{Bounds}
 

@@ -11,7 +11,7 @@ use crate::bounds::Bounds;
 use crate::lanes::{bounds_of, null_count_of, total_of};
 use crate::span::{is_turned, span_of};
 use crate::test::Comparison;
-use offset_lanes::{
+use frame_of_reference::{
     Offsets, add_each, mark_each, offset_at, offsets_of, rows_of, sum_of, turn_each, unmark_nulls,
 };
 use std::alloc::{AllocError, Global};
@@ -36,7 +36,7 @@ impl Model for Integers {
     ghost use Rattle.std.specs.List.{count_by};
     ghost use Rattle.std.specs.Option.{is_none};
     ghost use Rattle.block_summary.specs.Cells.{cells_of, sums, AreBelow, HaveBounds};
-    ghost use Rattle.offset_lanes.specs.OffsetList.{offset_list};
+    ghost use Rattle.frame_of_reference.specs.OffsetList.{offset_list};
     ghost use Rattle.block_summary.specs.Sums.{number_sum};
 
     ghost Value = { List (Option ℤ) };

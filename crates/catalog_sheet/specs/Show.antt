@@ -7,8 +7,8 @@ use Rattle.cell_types.specs.Column.{ColumnOf}
 use Rattle.cell_types.specs.Datatype.{DatatypeOf, integer, text, boolean, date, decimal, pattern_of}
 use Rattle.cell_types.specs.Value.{CellValue}
 use Rattle.table_store.specs.Table.{TableOf}
-use Rattle.folder_report.specs.Text.{quoted_text}
-use Rattle.folder_report.specs.Value.{shown_value}
+use Rattle.diagnostics.specs.Text.{quoted_text}
+use Rattle.diagnostics.specs.Value.{shown_value}
 
 -- a datatype by its name, with its format where it has one
 abbrev pub datatype_text : DatatypeOf → List ℕ

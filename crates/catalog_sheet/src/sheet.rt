@@ -2,11 +2,11 @@
 ghost use Rattle.std.specs.Prelude.{◌≡◌, IfOk, [], false, is_ok, true};
 ghost use Rattle.cell_types.specs.Value.{value_view};
 ghost use Rattle.catalog_sheet.specs.Sheet.{IsLongerBy};
-ghost use Rattle.folder_report.specs.Value.{shown_value};
+ghost use Rattle.diagnostics.specs.Value.{shown_value};
 ghost use Rattle.std.specs.Fmt.{decimal};
 
 use cell_types::Value;
-use folder_report::push_value;
+use diagnostics::push_value;
 use reply_values::push_number;
 use std::alloc::{AllocError, Global};
 

@@ -6,14 +6,14 @@ ghost use Rattle.cell_types.specs.Datatype.{datatype_view};
 ghost use Rattle.cell_types.specs.Value.{value_view};
 ghost use Rattle.csvw_meta.specs.Schema.{schema_view};
 ghost use Rattle.catalog_sheet.specs.Sheet.{IsLongerBy};
-ghost use Rattle.folder_report.specs.Text.{quoted_text};
+ghost use Rattle.diagnostics.specs.Text.{quoted_text};
 ghost use Rattle.catalog_sheet.specs.Show.{bound_text, column_front, column_line, datatype_text, is_of_key, shown_table, table_text, tables_text};
 
 use crate::range::column_range;
 use crate::sheet::Sheet;
 use cell_types::{BooleanForm, Column, Datatype, Value};
 use csvw_meta::Schema;
-use folder_report::{pattern_of, push_quoted};
+use diagnostics::{pattern_of, push_quoted};
 use std::alloc::{AllocError, Global};
 use table_store::{Catalog, Table};
 

@@ -36,7 +36,7 @@ pub fn read_ahead(columns: &Columns, row: usize, seen: Option<u8>) -> Option<u8>
     let end = columns.len().min(row.saturating_add(TOGETHER));
     for col in 0..columns.width() {
         for at in row..end {
-            seen = seen ^ byte_of(columns.lent_row(at).cell(col));
+            seen = seen ^ byte_of(columns.row_ref(at).cell(col));
         }
     }
     Some(seen)

@@ -2,9 +2,9 @@
 ghost use Rattle.std.specs.Prelude.{◌≡◌};
 ghost use Rattle.column_forms.specs.Choice.{is_plain_form};
 
-use crate::seen::Seen;
+use crate::seen::CellsSeen;
 use crate::wants::Wants;
-use value_forms::{DayForm, Form, NumberForm, Order, Scale};
+use value_forms::{DayForm, Form, NumberForm, DateOrder, Scale};
 
 /// Returns true if a form is of numbers with that point.
 fn has_point(form: Form<'_>, point: u8) -> bool {
@@ -43,7 +43,7 @@ pub enum Point {
 }
 
 /// Returns which point the numbers of a column have.
-pub fn point_of(seen: &Seen) -> Point {
+pub fn point_of(seen: &CellsSeen) -> Point {
     let forms = seen.forms.as_slice();
     let comma = forms.iter().any(|form| has_point(*form, b','));
     let dot = forms.iter().any(|form| has_point(*form, b'.'));
@@ -98,7 +98,7 @@ fn day_form(form: Form<'_>) -> Option<DayForm> {
 }
 
 /// Returns the first form of days with an order.
-fn day_with(forms: &[Form<'static>], order: Order) -> Option<Form<'static>> {
+fn day_with(forms: &[Form<'static>], order: DateOrder) -> Option<Form<'static>> {
     for form in forms {
         if let Some(day) = day_form(*form)
             && day.order == order
@@ -111,9 +111,9 @@ fn day_with(forms: &[Form<'static>], order: Order) -> Option<Form<'static>> {
 
 /// Returns the choice for a column of days.
 fn day_choice(forms: &[Form<'static>], wants: Wants<'_>) -> Choice {
-    let day = day_with(forms, Order::DayFirst);
-    let month = day_with(forms, Order::MonthFirst);
-    let year = day_with(forms, Order::YearFirst);
+    let day = day_with(forms, DateOrder::DayFirst);
+    let month = day_with(forms, DateOrder::MonthFirst);
+    let year = day_with(forms, DateOrder::YearFirst);
     match (year, day, month) {
         (Some(form), _, _) => Choice::Form(form),
         (None, Some(day), Some(month)) => {
@@ -131,7 +131,7 @@ fn day_choice(forms: &[Form<'static>], wants: Wants<'_>) -> Choice {
 }
 
 /// Returns the choice for a column of numbers, of which the other columns of the file have that point.
-fn number_choice(seen: &Seen, wants: Wants<'_>, file: Point, separator: u8) -> Choice {
+fn number_choice(seen: &CellsSeen, wants: Wants<'_>, file: Point, separator: u8) -> Choice {
     let forms = seen.forms.as_slice();
     let asked = if wants.comma {
         Point::Comma
@@ -157,7 +157,7 @@ fn number_choice(seen: &Seen, wants: Wants<'_>, file: Point, separator: u8) -> C
 }
 
 /// Returns the choice for a column.
-pub fn choice_of(seen: &Seen, wants: Wants<'_>, file: Point, separator: u8) -> Choice {
+pub fn choice_of(seen: &CellsSeen, wants: Wants<'_>, file: Point, separator: u8) -> Choice {
     if wants.text {
         return Choice::Text;
     }

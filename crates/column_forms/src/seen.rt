@@ -1,6 +1,6 @@
 //! The cells of a column, as far as they are read.
 ghost use Rattle.std.specs.Prelude.{◌≡◌, ◌<◌, [], IfOk, IfSome, MatchOption, is_some, slice_index_or};
-ghost use Rattle.column_forms.specs.Seen.{BeginsWithSpace, HasPlainSpaces, IsPlainByte, IsSeen, is_null_word, null_texts};
+ghost use Rattle.column_forms.specs.CellsSeen.{BeginsWithSpace, HasPlainSpaces, IsPlainByte, IsSeen, is_null_word, null_texts};
 
 use crate::candidates::candidates_of;
 use std::alloc::{AllocError, Global};
@@ -11,7 +11,7 @@ pub const NULLS: [&str; 9] = ["NA", "N/A", "n/a", "NULL", "null", "-", ".", ".."
 
 /// The cells of a column so far.
 #[derive(Drop)]
-pub struct Seen {
+pub struct CellsSeen {
     alloc: Global,
     /// The forms that all cells so far have, by the first of them.
     pub forms: Vec<Form<'static>>,
@@ -102,10 +102,10 @@ fn is_code(cell: &[u8]) -> bool {
     }
 }
 
-impl Seen {
+impl CellsSeen {
     /// Returns what is known of no cell.
-    pub fn new(alloc: Global) -> Result<Seen, AllocError> {
-        Ok(Seen {
+    pub fn new(alloc: Global) -> Result<CellsSeen, AllocError> {
+        Ok(CellsSeen {
             alloc,
             forms: Vec::new(alloc),
             cells: 0,

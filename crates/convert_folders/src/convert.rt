@@ -6,10 +6,10 @@ use crate::publish::Half;
 use crate::rules::{ColumnRule, rules_in, rules_of};
 use crate::warnings::warnings_of;
 use convert_report::{Entry, Status, entries_of, entry_line, refusal_of, report_json};
-use csvw_guess::{Aims, DraftFault, Guess, guess_of};
+use schema_inference::{Aims, DraftFault, Guess, guess_of};
 use csvw_meta::{Limits, Schema};
-use draft_words::Conversion;
-use file_convert::{Asks, ConvertFault, Converted, convert};
+use draft_args::Conversion;
+use file_convert::{ConvertOptions, ConvertFault, Converted, convert};
 use served_folders::read_plain;
 use std::alloc::AllocError;
 use std::io;
@@ -50,8 +50,8 @@ impl Folder {
 }
 
 /// Returns what is asked for in the conversion of a file.
-fn asks_of<'a>(asks: &Conversion<'a>, rules: &'a [file_convert::Rule<'a>]) -> Asks<'a> {
-    Asks {
+fn asks_of<'a>(asks: &Conversion<'a>, rules: &'a [file_convert::Rule<'a>]) -> ConvertOptions<'a> {
+    ConvertOptions {
         skip_lines: asks.skip_lines.unwrap_or(0) as usize,
         pads: asks.pad,
         rounds: asks.round,

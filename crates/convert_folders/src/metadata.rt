@@ -1,11 +1,11 @@
 //! The metadata of converted files.
 ghost use Rattle.std.specs.Prelude.{◌≡◌, IfOk};
-ghost use Rattle.csvw_guess.specs.Draft.{IsDraft};
+ghost use Rattle.schema_inference.specs.Draft.{IsDraft};
 
 use cell_types::{Column, Datatype};
-use csvw_guess::{DraftFault, accepted_text, table_json};
+use schema_inference::{DraftFault, accepted_text, table_json};
 use csvw_meta::{Limits, Schema};
-use file_convert::{ColumnReport, Kind, NULLS};
+use file_convert::{ColumnReport, ReportKind, NULLS};
 use serde_json::Value;
 use std::alloc::{AllocError, Global};
 use table_store::NamedFile;
@@ -31,7 +31,7 @@ fn add_null(alloc: Global, column: &mut Column, text: &[u8]) -> Result<(), Alloc
 /// Returns true if the cells of a column are numbers that are served, which a draft may take for versions.
 fn is_number(report: &ColumnReport) -> bool {
     let is_served = report.fine == 0 || report.rounds;
-    matches!(report.kind, Kind::Form(Form::Number(_))) && report.changed > 0 && is_served
+    matches!(report.kind, ReportKind::Form(Form::Number(_))) && report.changed > 0 && is_served
 }
 
 /// Adds the texts that stand for null in a column: in a column of texts the one that was asked for, and no other.
@@ -80,7 +80,7 @@ pub fn fit_schema(
     reports: &[ColumnReport],
 ) -> Result<(), AllocError> {
     for report in reports {
-        if matches!(report.kind, Kind::Empty) {
+        if matches!(report.kind, ReportKind::Empty) {
             continue;
         }
         if let Some(column) = schema.columns.get_mut(report.place)

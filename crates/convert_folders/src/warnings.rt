@@ -1,11 +1,11 @@
 //! What a draft says to the publisher of a file that is converted.
 use cell_types::Datatype;
 use convert_report::{Entry, Status};
-use csvw_guess::{Guess, Warning};
+use schema_inference::{Guess, Warning};
 use csvw_meta::Schema;
 use draft_warnings::{is_said, push_warning};
-use file_convert::{ColumnReport, Kind};
-use folder_report::Line;
+use file_convert::{ColumnReport, ReportKind};
+use diagnostics::Line;
 use std::alloc::{AllocError, Global};
 use table_store::NamedFile;
 
@@ -20,7 +20,7 @@ fn is_text(schema: &Schema, col: usize) -> bool {
 /// Returns true if a column that is written was not asked or proposed to stay one of texts, and is not one of times of day.
 fn is_guessed(reports: &[ColumnReport], col: usize) -> bool {
     reports.iter().any(|report| {
-        report.place == col && !report.is_text && !matches!(report.kind, Kind::Empty)
+        report.place == col && !report.is_text && !matches!(report.kind, ReportKind::Empty)
     })
 }
 

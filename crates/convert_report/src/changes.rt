@@ -2,7 +2,7 @@
 use crate::columns::push_column;
 use crate::entry::{Entry, Status};
 use crate::proposals::push_proposals;
-use file_convert::{Converted, Kind};
+use file_convert::{Converted, ReportKind};
 use std::alloc::{AllocError, Global};
 use text_encodings::Encoding;
 
@@ -70,7 +70,7 @@ fn push_empty(
 ) -> Result<(), AllocError> {
     let mut count: usize = 0;
     for report in converted.columns.as_slice() {
-        if matches!(report.kind, Kind::Empty) {
+        if matches!(report.kind, ReportKind::Empty) {
             count = count.saturating_add(1);
         }
     }

@@ -1,7 +1,7 @@
 //! What is changed in a column.
 use crate::entry::{Entry, Status};
 use crate::forms::form_words;
-use file_convert::{ColumnReport, Kind, NULLS};
+use file_convert::{ColumnReport, ReportKind, NULLS};
 use std::alloc::{AllocError, Global};
 use std::str::from_utf8;
 
@@ -35,7 +35,7 @@ fn push_changed(
     report: &ColumnReport,
     entries: &mut Vec<Entry>,
 ) -> Result<(), AllocError> {
-    let Kind::Form(form) = report.kind else {
+    let ReportKind::Form(form) = report.kind else {
         return Ok(());
     };
     if report.changed == 0 {
@@ -103,7 +103,7 @@ fn push_nulls(
     report: &ColumnReport,
     entries: &mut Vec<Entry>,
 ) -> Result<(), AllocError> {
-    if !matches!(report.kind, Kind::Form(_)) {
+    if !matches!(report.kind, ReportKind::Form(_)) {
         return Ok(());
     }
     for (word, count) in NULLS.iter().zip(report.nulls.as_slice()) {

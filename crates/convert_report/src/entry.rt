@@ -1,7 +1,7 @@
 //! An entry of a report.
 use csv_records::RecordFault;
 use file_convert::ConvertFault;
-use message_text::escaped;
+use text_escapes::escaped;
 use std::alloc::{AllocError, Global};
 
 /// What an entry says.

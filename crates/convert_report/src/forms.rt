@@ -1,5 +1,5 @@
 //! The words for forms.
-use value_forms::{DayForm, Form, NumberForm, Order, Scale};
+use value_forms::{DayForm, Form, NumberForm, DateOrder, Scale};
 
 /// Returns what numbers look like by their marks.
 fn marks_words(form: NumberForm<'_>) -> &'static str {
@@ -28,12 +28,12 @@ fn number_words(form: NumberForm<'_>) -> (&'static str, &'static str) {
 /// Returns what days look like.
 fn day_words(form: DayForm) -> &'static str {
     match (form.order, form.is_named) {
-        (Order::YearFirst, false) => "dates with the year first",
-        (Order::DayFirst, false) => "dates with the day first",
-        (Order::MonthFirst, false) => "dates with the month first",
-        (Order::YearFirst, true) => "dates with the year first and names of months",
-        (Order::DayFirst, true) => "dates with the day first and names of months",
-        (Order::MonthFirst, true) => "dates with the name of the month first",
+        (DateOrder::YearFirst, false) => "dates with the year first",
+        (DateOrder::DayFirst, false) => "dates with the day first",
+        (DateOrder::MonthFirst, false) => "dates with the month first",
+        (DateOrder::YearFirst, true) => "dates with the year first and names of months",
+        (DateOrder::DayFirst, true) => "dates with the day first and names of months",
+        (DateOrder::MonthFirst, true) => "dates with the name of the month first",
     }
 }
 

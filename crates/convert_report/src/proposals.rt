@@ -1,7 +1,7 @@
 //! What would be changed in a column if it were asked for.
 use crate::columns::{column_entry, difference_text};
 use crate::entry::{Entry, Status};
-use file_convert::{ColumnReport, Kind, NULLS};
+use file_convert::{ColumnReport, ReportKind, NULLS};
 use std::alloc::{AllocError, Global};
 use std::str::from_utf8;
 
@@ -82,7 +82,7 @@ pub(crate) fn push_proposals(
 ) -> Result<(), AllocError> {
     propose_round(alloc, report, entries)?;
     match report.kind {
-        Kind::TwoPoints => propose_rule(
+        ReportKind::TwoPoints => propose_rule(
             alloc,
             table,
             report,
@@ -93,7 +93,7 @@ pub(crate) fn push_proposals(
             ),
             entries,
         ),
-        Kind::TwoOrders => propose_rule(
+        ReportKind::TwoOrders => propose_rule(
             alloc,
             table,
             report,
@@ -104,7 +104,7 @@ pub(crate) fn push_proposals(
             ),
             entries,
         ),
-        Kind::Text => propose_nulls(alloc, report, entries),
-        Kind::Form(_) | Kind::Empty => Ok(()),
+        ReportKind::Text => propose_nulls(alloc, report, entries),
+        ReportKind::Form(_) | ReportKind::Empty => Ok(()),
     }
 }

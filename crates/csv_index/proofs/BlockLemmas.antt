@@ -7,11 +7,11 @@ use Rattle.std.proofs.Math.Nat.{mod-lt}
 use Rattle.std.proofs.lemmas.Nat.{ones-le, pow_pos}
 use Rattle.std.proofs.lemmas.List.{take_all}
 use Rattle.csv_index.specs.Blocks.{set_places, block_places, rank, AreRanked, IsLastBefore, Stands}
-use Rattle.csv_index.specs.declared.blocks.Block.{Block}
+use Rattle.csv_index.specs.declared.blocks.ByteBlock.{ByteBlock}
 use Rattle.csv_index.proofs.Bits.{places_count, places_around, ones_front}
 
 -- the place of the first block does not matter to the number of places
-pub block_places-length : (at to : ℕ) (blocks : List Block) → length (block_places at blocks) ≡ length (block_places to blocks)
+pub block_places-length : (at to : ℕ) (blocks : List ByteBlock) → length (block_places at blocks) ≡ length (block_places to blocks)
 block_places-length at to [] = refl
 block_places-length at to (block ∷ blocks) =
     length-append (set_places at block.ends 0 64) (block_places (at + 64) blocks)
@@ -19,7 +19,7 @@ block_places-length at to (block ∷ blocks) =
     ∙ sym (length-append (set_places to block.ends 0 64) (block_places (to + 64) blocks))
 
 -- one block more
-pub block_places-push : (at to : ℕ) (blocks : List Block) (block : Block) → to ≡ at + 64 * length blocks
+pub block_places-push : (at to : ℕ) (blocks : List ByteBlock) (block : ByteBlock) → to ≡ at + 64 * length blocks
     → block_places at (blocks ++ block ∷ []) ≡ block_places at blocks ++ set_places to block.ends 0 64
 block_places-push at to [] block e =
     let same : to ≡ at = omega arith in rw same (simp append_nil)
@@ -28,7 +28,7 @@ block_places-push at to (first ∷ blocks) block e =
     ∙ sym (append_assoc (set_places at first.ends 0 64) (block_places (at + 64) blocks) (set_places to block.ends 0 64))
 
 -- around a block
-pub block_places-around : (at to : ℕ) (blocks : List Block) (number : ℕ) (block : Block) → slice_get blocks number ≡ Some block → to ≡ at + 64 * number
+pub block_places-around : (at to : ℕ) (blocks : List ByteBlock) (number : ℕ) (block : ByteBlock) → slice_get blocks number ≡ Some block → to ≡ at + 64 * number
     → block_places at blocks
     ≡ block_places at (take number blocks) ++ (set_places to block.ends 0 64 ++ block_places (to + 64) (drop (suc number) blocks))
 block_places-around at to [] number block is e = absurd (cc)
@@ -40,11 +40,11 @@ block_places-around at to (first ∷ blocks) (suc number) block is e =
     ∙ sym (append_assoc (set_places at first.ends 0 64) (block_places (at + 64) (take number blocks)) _)
 
 -- what stands before the next block
-pub rank_next : (blocks : List Block) (number : ℕ) (block : Block) → slice_get blocks number ≡ Some block
+pub rank_next : (blocks : List ByteBlock) (number : ℕ) (block : ByteBlock) → slice_get blocks number ≡ Some block
     → rank blocks (number + 1) ≡ rank blocks number + count_ones (block.ends % 2 ^ 64)
 rank_next blocks number block is = ap (rank blocks) (add-one number) ∙ on 0 blocks number is
   where
-    on : (at : ℕ) (bs : List Block) (k : ℕ) → slice_get bs k ≡ Some block
+    on : (at : ℕ) (bs : List ByteBlock) (k : ℕ) → slice_get bs k ≡ Some block
         → length (block_places at (take (suc k) bs)) ≡ length (block_places at (take k bs)) + count_ones (block.ends % 2 ^ 64)
     on at [] k e = absurd (cc)
     on at (b ∷ bs) zero e =
@@ -59,7 +59,7 @@ not_less : (a b n : ℕ) → (a < b → n < n) → b ≤ a
 not_less a b n h = grind arith
 
 -- the blocks have no place of that number
-pub none_stands : (blocks : List Block) (n number : ℕ) (block : Block) → slice_get blocks number ≡ Some block → IsLastBefore blocks n number
+pub none_stands : (blocks : List ByteBlock) (n number : ℕ) (block : ByteBlock) → slice_get blocks number ≡ Some block → IsLastBefore blocks n number
     → count_ones block.ends ≤ n - rank blocks number → length (block_places 0 blocks) ≤ n
 none_stands blocks n number block is last few =
     let next : rank blocks (number + 1) ≤ rank blocks number + count_ones block.ends = omega (arith, rank_next blocks number block is, ones_front block.ends 64) in
@@ -69,13 +69,13 @@ none_stands blocks n number block is last few =
     omega (arith, ap (λ bs. length (block_places 0 bs)) all)
 
 -- the same, of a number that was cut to the bits of a word
-pub none_found : (blocks : List Block) (n number rest : ℕ) (block : Block) → AreRanked blocks → slice_get blocks number ≡ Some block
+pub none_found : (blocks : List ByteBlock) (n number rest : ℕ) (block : ByteBlock) → AreRanked blocks → slice_get blocks number ≡ Some block
     → IsLastBefore blocks n number → rest ≡ min (n - block.before) 64 → count_ones block.ends ≤ rest → length (block_places 0 blocks) ≤ n
 none_found blocks n number rest block ranked is last cut few =
     none_stands blocks n number block is last (omega (arith, ranked number block is))
 
 -- the block has it
-pub stands : (blocks : List Block) (n number bit : ℕ) (block : Block) → slice_get blocks number ≡ Some block → IsLastBefore blocks n number
+pub stands : (blocks : List ByteBlock) (n number bit : ℕ) (block : ByteBlock) → slice_get blocks number ≡ Some block → IsLastBefore blocks n number
     → bit < 64 → bit_at block.ends bit ≡ 1 → count_ones (block.ends % 2 ^ bit) ≡ n - rank blocks number → Stands blocks n number bit
 stands blocks n number bit block is last within set below = record {
   block = block;
@@ -96,7 +96,7 @@ stands blocks n number bit block is last within set below = record {
 }
 
 -- the same, of a number that was cut to the bits of a word
-pub found : (blocks : List Block) (n number bit rest : ℕ) (block : Block) → AreRanked blocks → slice_get blocks number ≡ Some block
+pub found : (blocks : List ByteBlock) (n number bit rest : ℕ) (block : ByteBlock) → AreRanked blocks → slice_get blocks number ≡ Some block
     → IsLastBefore blocks n number → rest ≡ min (n - block.before) 64
     → bit < 64 → bit_at block.ends bit ≡ 1 → count_ones (block.ends % 2 ^ bit) ≡ rest → Stands blocks n number bit
 found blocks n number bit rest block ranked is last cut within set below =

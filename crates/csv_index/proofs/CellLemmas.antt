@@ -5,7 +5,7 @@ use Rattle.std.specs.List.{slice_get, slice_index, slice_range, AllByRecursion}
 use Rattle.std.specs.Option.{option_map}
 use Rattle.std.proofs.lemmas.Option.{slice_get-map}
 use Rattle.std.specs.Str.{is_utf8}
-use Rattle.raw_fields.specs.Between.{cut, raw_between}
+use Rattle.csv_fields.specs.Between.{cut, raw_between}
 use Rattle.csv_index.specs.Index.{Places, raws, start_at, Rise, AreAscii, FitsFile}
 
 -- what is in a list behind a front

@@ -7,7 +7,7 @@ use Rattle.std.proofs.lemmas.Str.{IsUtf8-take, IsUtf8-drop, IsCharBoundary-befor
 use Rattle.csv_grammar.specs.Bytes.{double_quote, comma, carriage_return, line_feed}
 use Rattle.csv_grammar.specs.Records.{Field, unquoted, quoted, is_plain, doubled, print_field, IsField}
 use Rattle.csv_grammar.specs.Raw.{raw_of}
-use Rattle.raw_fields.specs.Between.{without_return, unwrapped, raw_between}
+use Rattle.csv_fields.specs.Between.{without_return, unwrapped, raw_between}
 
 -- ---- what a plain byte is not
 

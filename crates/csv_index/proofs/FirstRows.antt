@@ -10,12 +10,12 @@ use Rattle.std.specs.Int.{bit_at}
 use Rattle.std.specs.List.{slice_get, slice_range, AllByRecursion}
 use Rattle.std.specs.Str.{is_utf8, IsCharBoundary}
 use Rattle.csv_grammar.specs.Raw.{RawField, RawTable}
-use Rattle.raw_fields.specs.Between.{cut, raw_between}
-use Rattle.raw_fields.specs.Rows.{rows_cut}
+use Rattle.csv_fields.specs.Between.{cut, raw_between}
+use Rattle.csv_fields.specs.Rows.{rows_cut}
 use Rattle.csv_index.specs.Blocks.{set_places, block_places, rank, AreRanked, Stands}
 use Rattle.csv_index.specs.Index.{Places, raws, start_at, table_in, first_bytes, first_places, AreAscii, FitsFile, Rise}
 use Rattle.csv_index.specs.Structure.{ends_of}
-use Rattle.csv_index.specs.declared.blocks.Block.{Block}
+use Rattle.csv_index.specs.declared.blocks.ByteBlock.{ByteBlock}
 use Rattle.csv_index.proofs.Bits.{places_around, places_none, places_same}
 use Rattle.csv_index.proofs.BlockLemmas.{block_places-length, block_places-push}
 use Rattle.csv_grammar.proofs.ListLaws.{slice_get-take}
@@ -58,7 +58,7 @@ places_to base w bit within set =
 -- ---- the blocks up to one
 
 -- the places of the blocks up to one, and of that up to one of its bits
-first_ends : (start n number bit : ℕ) (blocks : List Block) (block : Block) (last : Option ℕ) → (s : Stands blocks n number bit)
+first_ends : (start n number bit : ℕ) (blocks : List ByteBlock) (block : ByteBlock) (last : Option ℕ) → (s : Stands blocks n number bit)
     → block.ends ≡ bit_and s.block.ends ((2 ^ 64 - 1) / 2 ^ (63 - bit))
     → ends_of start (take number blocks ++ block ∷ []) None ≡ take (n + 1) (ends_of start blocks last)
 first_ends start n number bit blocks block last s is =
@@ -88,7 +88,7 @@ take_front_of n m xs within =
     ap (λ k. take n (take k xs)) whole ∙ take_front n (m - n) xs
 
 -- they are ranked, where the last keeps how many stand before it
-first_ranked : (blocks : List Block) (number : ℕ) (was last : Block) → AreRanked blocks → slice_get blocks number ≡ Some was → last.before ≡ was.before
+first_ranked : (blocks : List ByteBlock) (number : ℕ) (was last : ByteBlock) → AreRanked blocks → slice_get blocks number ≡ Some was → last.before ≡ was.before
     → AreRanked (take number blocks ++ last ∷ [])
 first_ranked blocks number was last ranked is same k block e =
     let within = slice_get_within blocks number was is in
@@ -98,7 +98,7 @@ first_ranked blocks number was last ranked is same k block e =
           let front : take k (take number blocks ++ last ∷ []) ≡ take k blocks =
           take_of-front (take number blocks) (last ∷ []) k (omega (arith, size, here)) ∙ take_front_of k number blocks (omega (arith, here)) in
           let at : last ≡ block = same_Some last block (sym (slice_get-behind (take number blocks) (last ∷ []) k 0 (omega (arith, size, here))) ∙ e) in
-          ap (λ (b : Block). b.before) (sym at) ∙ same ∙ ranked number was is ∙ ap (rank blocks) (sym here)
+          ap (λ (b : ByteBlock). b.before) (sym at) ∙ same ∙ ranked number was is ∙ ap (rank blocks) (sym here)
           ∙ sym (ap (λ bs. length (block_places 0 bs)) front)
       | inr (inl less) ↦
           let front : take k (take number blocks ++ last ∷ []) ≡ take k blocks =
@@ -227,29 +227,29 @@ few_rows places row size rise wide within =
     (omega (arith, one), omega (arith, most, within))
 
 -- a place that another follows is one of the blocks
-pub not_past : (start n : ℕ) (blocks : List Block) (last : Option ℕ) → 0 < n → length (block_places 0 blocks) ≤ n - 1 → n < length (ends_of start blocks last) → ⊥
+pub not_past : (start n : ℕ) (blocks : List ByteBlock) (last : Option ℕ) → 0 < n → length (block_places 0 blocks) ≤ n - 1 → n < length (ends_of start blocks last) → ⊥
 not_past start n blocks None some past within =
     omega (arith, some, past, within, block_places-length start 0 blocks, length-append (block_places start blocks) [])
 not_past start n blocks (Some end) some past within =
     omega (arith, some, past, within, block_places-length start 0 blocks, length-append (block_places start blocks) (end ∷ []))
 
 -- ---- the blocks that are kept
-pub record AreKept (start n : ℕ) (blocks kept : List Block) (last : Option ℕ) : Type 0 where
+pub record AreKept (start n : ℕ) (blocks kept : List ByteBlock) (last : Option ℕ) : Type 0 where
   pub ends : ends_of start kept None ≡ take (n + 1) (ends_of start blocks last)
   pub ranked : AreRanked kept
   pub few : length kept ≤ length blocks
   pub rise : Rise start (ends_of start kept None) (2 ^ 63)
 
-pub are_kept : (start n number bit : ℕ) (blocks kept : List Block) (last : Option ℕ) (was block : Block) → AreRanked blocks → Rise start (ends_of start blocks last) (2 ^ 63)
+pub are_kept : (start n number bit : ℕ) (blocks kept : List ByteBlock) (last : Option ℕ) (was block : ByteBlock) → AreRanked blocks → Rise start (ends_of start blocks last) (2 ^ 63)
     → (s : Stands blocks n number bit) → was ≡ s.block → block.ends ≡ bit_and was.ends ((2 ^ 64 - 1) / 2 ^ (63 - bit)) → block.before ≡ was.before
     → kept ≡ take number blocks ++ block ∷ [] → AreKept start n blocks kept last
 are_kept start n number bit blocks kept last was block ranked rise s same ends before is =
     let within = slice_get_within blocks number s.block s.is in
-    let word : block.ends ≡ bit_and s.block.ends ((2 ^ 64 - 1) / 2 ^ (63 - bit)) = ends ∙ ap (λ (b : Block). bit_and b.ends ((2 ^ 64 - 1) / 2 ^ (63 - bit))) same in
+    let word : block.ends ≡ bit_and s.block.ends ((2 ^ 64 - 1) / 2 ^ (63 - bit)) = ends ∙ ap (λ (b : ByteBlock). bit_and b.ends ((2 ^ 64 - 1) / 2 ^ (63 - bit))) same in
     let all : ends_of start kept None ≡ take (n + 1) (ends_of start blocks last) =
     ap (λ bs. ends_of start bs None) is ∙ first_ends start n number bit blocks block last s word in record {
       ends = all;
-      ranked = subst AreRanked (sym is) (first_ranked blocks number s.block block ranked s.is (before ∙ ap (λ (b : Block). b.before) same));
+      ranked = subst AreRanked (sym is) (first_ranked blocks number s.block block ranked s.is (before ∙ ap (λ (b : ByteBlock). b.before) same));
       few = omega (arith, ap length is, length-append (take number blocks) (block ∷ []), length-take number blocks, within);
       rise = subst (λ l. Rise start l (2 ^ 63)) (sym all) (rise_first start (2 ^ 63) (ends_of start blocks last) (n + 1) rise);
     }

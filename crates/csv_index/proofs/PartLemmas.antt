@@ -5,10 +5,10 @@ use Rattle.std.proofs.lemmas.List.{drop-drop, take_more, take_more_set}
 use Rattle.std.proofs.lemmas.Option.{get_or_from_slice_get, slice_get_within}
 use Rattle.std.specs.List.{slice_get, slice_index}
 use Rattle.csv_grammar.specs.Raw.{RawField}
-use Rattle.raw_fields.specs.Between.{cut, raw_between}
+use Rattle.csv_fields.specs.Between.{cut, raw_between}
 use Rattle.csv_index.specs.Fields.{AreLeft}
 use Rattle.csv_index.specs.Index.{start_at}
-use Rattle.raw_fields.specs.Rows.{rows_cut}
+use Rattle.csv_fields.specs.Rows.{rows_cut}
 use Rattle.csv_index.specs.Parts.{PartsOf}
 use Rattle.csv_index.proofs.Boundaries.{left_behind}
 use Rattle.csv_index.proofs.CellLemmas.{map-drop}

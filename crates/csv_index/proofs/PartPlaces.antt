@@ -8,9 +8,9 @@ use Rattle.std.specs.List.{slice_get, slice_index, slice_range}
 use Rattle.std.specs.Option.{option_map}
 use Rattle.std.specs.Str.{is_utf8, IsCharBoundary}
 use Rattle.csv_grammar.specs.Raw.{RawField}
-use Rattle.raw_fields.specs.Between.{cut, raw_between}
-use Rattle.raw_fields.specs.Part.{fields_between, part_between, PartOf, StandBetween, StandsBetween}
-use Rattle.raw_fields.specs.Rows.{rows_cut}
+use Rattle.csv_fields.specs.Between.{cut, raw_between}
+use Rattle.csv_fields.specs.Part.{fields_between, part_between, PartOf, StandBetween, StandsBetween}
+use Rattle.csv_fields.specs.Rows.{rows_cut}
 use Rattle.csv_index.specs.Fields.{AreLeft}
 use Rattle.csv_index.specs.Index.{Places, raws, start_at, table_in, FitsFile}
 use Rattle.csv_index.specs.Parts.{part_ends, part_fields, part_start, parts_of, parts_view, AreParts, PartsOf}

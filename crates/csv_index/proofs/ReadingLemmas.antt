@@ -16,7 +16,7 @@ use Rattle.csv_grammar.specs.Laws.{OneStructure, WhatFollows}
 use Rattle.quote_parity.specs.declared.carry.Masks.{Masks}
 use Rattle.csv_index.specs.Blocks.{set_places, block_places, rank, AreRanked}
 use Rattle.csv_index.specs.Widths.{uncounted, roles_counted, mask_role, mask_roles}
-use Rattle.csv_index.specs.declared.blocks.Block.{Block}
+use Rattle.csv_index.specs.declared.blocks.ByteBlock.{ByteBlock}
 use Rattle.csv_index.specs.declared.widths.Widths.{Widths}
 use Rattle.csv_index.specs.Reading.{role_places, role_open, open_after, bytes_left, HasReadBlocks, HasReadText, IsBlockReading}
 use Rattle.csv_index.specs.declared.reading.Reading.{Reading}
@@ -44,23 +44,23 @@ has_read_none laws follows text =
       state = refl;
     }
   where
-    none_at : (blocks : List Block) (k : ℕ) (block : Block) → length blocks ≡ 0 → slice_get blocks k ≡ Some block → ⊥
+    none_at : (blocks : List ByteBlock) (k : ℕ) (block : ByteBlock) → length blocks ≡ 0 → slice_get blocks k ≡ Some block → ⊥
     none_at [] k block h e = cc
     none_at (first ∷ blocks) k block h e = omega arith
 
 -- with one block more, each knows how many stand before it
-ranked_push : (blocks : List Block) (block : Block) → AreRanked blocks → block.before ≡ length (block_places 0 blocks) → AreRanked (blocks ++ block ∷ [])
+ranked_push : (blocks : List ByteBlock) (block : ByteBlock) → AreRanked blocks → block.before ≡ length (block_places 0 blocks) → AreRanked (blocks ++ block ∷ [])
 ranked_push blocks block ranked here = λ k b e. on k b e (ltb k (length blocks)) refl
   where
     front : (k : ℕ) → k ≤ length blocks → rank (blocks ++ block ∷ []) k ≡ rank blocks k
     front k h = ap (λ bs. length (block_places 0 bs)) (take-append-le k blocks (block ∷ []) h)
 
-    one : (k : ℕ) (b : Block) → slice_get (block ∷ []) k ≡ Some b → (k ≡ 0) × (block ≡ b)
+    one : (k : ℕ) (b : ByteBlock) → slice_get (block ∷ []) k ≡ Some b → (k ≡ 0) × (block ≡ b)
     one zero b e = (refl, cc)
     one (suc zero) b e = absurd (cc)
     one (suc (suc k)) b e = absurd (cc)
 
-    on : (k : ℕ) (b : Block) → slice_get (blocks ++ block ∷ []) k ≡ Some b → (t : Bool) → ltb k (length blocks) ≡ t → b.before ≡ rank (blocks ++ block ∷ []) k
+    on : (k : ℕ) (b : ByteBlock) → slice_get (blocks ++ block ∷ []) k ≡ Some b → (t : Bool) → ltb k (length blocks) ≡ t → b.before ≡ rank (blocks ++ block ∷ []) k
     on k b e true h =
         let less : k < length blocks = ltb-true k (length blocks) h in
         ranked k b (sym (slice_get-front blocks (block ∷ []) k less) ∙ e) ∙ sym (front k (omega arith))
@@ -68,7 +68,7 @@ ranked_push blocks block ranked here = λ k b e. on k b e (ltb k (length blocks)
         let past : length blocks ≤ k = ltb-false k (length blocks) h in
         let last = one (k - length blocks) b (sym (slice_get-behind blocks (block ∷ []) k (k - length blocks) (omega arith)) ∙ e) in
         let same : k ≡ length blocks = omega (arith, last.0) in
-        ap (λ (x : Block). x.before) (sym last.1) ∙ here ∙ sym (ap (rank (blocks ++ block ∷ [])) same ∙ front (length blocks) (omega arith) ∙ ap (λ bs. length (block_places 0 bs)) (take_all (length blocks) blocks (omega arith)))
+        ap (λ (x : ByteBlock). x.before) (sym last.1) ∙ here ∙ sym (ap (rank (blocks ++ block ∷ [])) same ∙ front (length blocks) (omega arith) ∙ ap (λ bs. length (block_places 0 bs)) (take_all (length blocks) blocks (omega arith)))
 
 -- a block's bytes are its bits below its length
 roles_whole : (sep eol len : ℕ) (w : Widths) → len ≤ 64 → sep < 2 ^ len → eol < 2 ^ len → roles_counted w (mask_roles sep eol 0 64) ≡ roles_counted w (mask_roles sep eol 0 len)
@@ -105,13 +105,13 @@ block_open was sep eol last len e =
     ∙ open_bit (bit_at eol last) (bit_at sep last == 1) (bit_at-lt eol last)
 
 -- the counts behind a front of the text: so many structural places stand before the next block, and no more than there are bytes
-pub record AreCounts (text : List ℕ) (blocks : List Block) (widths : Widths) : Type 0 where
+pub record AreCounts (text : List ℕ) (blocks : List ByteBlock) (widths : Widths) : Type 0 where
   pub before : widths.places ≡ length (block_places 0 blocks)
   pub places : widths.places ≤ length text
   pub start : widths.start ≤ widths.places
   pub records : widths.records ≤ length text
 
-pub read_counts : (laws : OneStructure) (text : List ℕ) (n : ℕ) (carry : TextCarry) (blocks : List Block) (widths : Widths) (was : Bool)
+pub read_counts : (laws : OneStructure) (text : List ℕ) (n : ℕ) (carry : TextCarry) (blocks : List ByteBlock) (widths : Widths) (was : Bool)
     → HasReadText text n carry blocks widths was → AreCounts text blocks widths
 read_counts laws text n carry blocks widths was read =
     let most = counted_most uncounted read.roles (omega arith) in
@@ -144,7 +144,7 @@ next_roles laws text n len masks behind roles are s none =
     }
 
 -- one block more
-pub has_read_more : (laws : OneStructure) (text : List ℕ) (n len last : ℕ) (masks : Masks) (carry behind : TextCarry) (blocks : List Block) (widths counted : Widths) (was unended : Bool)
+pub has_read_more : (laws : OneStructure) (text : List ℕ) (n len last : ℕ) (masks : Masks) (carry behind : TextCarry) (blocks : List ByteBlock) (widths counted : Widths) (was unended : Bool)
     → HasReadText text n carry blocks widths was → StepsTo text n len masks behind → masks.fault ≡ 0
     → counted ≡ roles_counted widths (mask_roles (bit_or masks.sep masks.eol) masks.eol 0 64) → len ≡ last + 1 → unended ≡ bit_at masks.eol last == 0
     → HasReadText text (n + 1) behind (blocks ++ record { ends = bit_or masks.sep masks.eol; before = widths.places } ∷ []) counted unended
@@ -153,7 +153,7 @@ has_read_more laws text n len last masks carry behind blocks widths counted was 
     let most : len ≤ 64 = omega (arith, s.len_is) in
     let next = next_roles laws text n len masks behind read.roles read.are s none in
     let ends : ℕ = bit_or masks.sep masks.eol in
-    let block : Block = record { ends = ends; before = widths.places } in
+    let block : ByteBlock = record { ends = ends; before = widths.places } in
     let size : length read.roles ≡ 64 * n = laws.count (take (64 * n) text) read.roles read.are ∙ length-front text n len s.more s.len_is in
     let place : (mark : ℕ) → mark + 64 * n ≡ mark + 64 * length blocks = λ mark. omega (arith, read.count) in
     let start : (mark : ℕ) → mark + 64 * n ≡ mark + length read.roles = λ mark. omega arith in record {

@@ -5,13 +5,13 @@ use Rattle.std.specs.List.{slice_get, flat_map, AllByRecursion}
 use Rattle.std.specs.Option.{option_and_then}
 use Rattle.csv_grammar.specs.Records.{Field}
 use Rattle.csv_grammar.specs.Files.{HasWidth, IsTable}
-use Rattle.raw_fields.specs.Laws.{FieldsStandSo}
+use Rattle.csv_fields.specs.Laws.{FieldsStandSo}
 use Rattle.csv_grammar.specs.Raw.{RawField, raw_of, field_of}
-use Rattle.raw_fields.specs.Between.{cut, raw_between}
+use Rattle.csv_fields.specs.Between.{cut, raw_between}
 use Rattle.csv_grammar.specs.Raw.{RawTable}
 use Rattle.csv_grammar.proofs.ListLaws.{slice_get-drop, slice_get-take}
 use Rattle.csv_index.specs.Index.{raw_table, Places, raws, row_fields, table_in, FitsFile, IsRawTable}
-use Rattle.raw_fields.specs.Rows.{rows_cut, cell_at}
+use Rattle.csv_fields.specs.Rows.{rows_cut, cell_at}
 
 -- there is a field for each place
 pub length-cut : (start : ℕ) (ends : List ℕ) (file : List ℕ) → length (cut start ends file) ≡ length ends

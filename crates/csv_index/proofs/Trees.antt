@@ -11,7 +11,7 @@ use Rattle.csv_grammar.specs.Bytes.{comma, carriage_return, line_feed}
 use Rattle.csv_grammar.specs.Records.{Field, print_field, IsField, print_record, IsRecord, IsLast, LineBreak, crlf, lf, Line, print_break, print_line, CsvText, print_last, print_text, IsText, records_of}
 use Rattle.csv_grammar.specs.Structure.{Role, separator, inner, field_roles, record_roles, break_roles, line_roles, last_roles, text_roles}
 use Rattle.csv_grammar.specs.Raw.{RawField, raw_of}
-use Rattle.raw_fields.specs.Between.{cut, raw_between}
+use Rattle.csv_fields.specs.Between.{cut, raw_between}
 use Rattle.csv_index.specs.Index.{Rise, AreAscii}
 use Rattle.csv_index.specs.Structure.{all_fields}
 use Rattle.csv_index.proofs.Boundaries.{ascii_at, ascii_end}

@@ -2,7 +2,7 @@
 -- and 4), as the set bits of masks: a block has 64 bytes, and bit i speaks of byte i.
 use Rattle.std.specs.Prelude.{◌≡◌, ℕ, zero, suc, ◌+◌, ◌-◌, ◌*◌, ◌<◌, ◌≤◌, List, [], ◌∷◌, ◌++◌, length, take, drop, if◌then◌else◌, ◌==◌, slice_get, Some}
 use Rattle.std.specs.Int.{bit_at}
-use Rattle.csv_index.specs.declared.blocks.Block.{Block}
+use Rattle.csv_index.specs.declared.blocks.ByteBlock.{ByteBlock}
 
 -- the places of the set bits among n bits of a word, from bit i on, where bit 0 is of the byte at that place
 unfoldable pub set_places : ℕ → ℕ → ℕ → ℕ → List ℕ
@@ -11,21 +11,21 @@ set_places at word i (suc n) =
     if bit_at word i == 1 then (at + i) ∷ set_places at word (i + 1) n else set_places at word (i + 1) n
 
 -- the structural places of blocks, the first of which begins at that place
-abbrev pub block_places : ℕ → List Block → List ℕ
+abbrev pub block_places : ℕ → List ByteBlock → List ℕ
 block_places at [] = []
 block_places at (block ∷ blocks) = set_places at block.ends 0 64 ++ block_places (at + 64) blocks
 
 -- how many structural places stand before a block
-abbrev pub rank : List Block → ℕ → ℕ
+abbrev pub rank : List ByteBlock → ℕ → ℕ
 rank blocks number = length (block_places 0 (take number blocks))
 
 -- each block knows how many stand before it
-abbrev pub AreRanked : List Block → Type 0
-AreRanked blocks = (number : ℕ) (block : Block) → slice_get blocks number ≡ Some block → block.before ≡ rank blocks number
+abbrev pub AreRanked : List ByteBlock → Type 0
+AreRanked blocks = (number : ℕ) (block : ByteBlock) → slice_get blocks number ≡ Some block → block.before ≡ rank blocks number
 
 -- the bit of the block of that number is the structural place number n: so many stand before it, and these behind
-pub record Stands (blocks : List Block) (n number bit : ℕ) : Type 0 where
-  pub block : Block
+pub record Stands (blocks : List ByteBlock) (n number bit : ℕ) : Type 0 where
+  pub block : ByteBlock
   pub is : slice_get blocks number ≡ Some block
   pub within : bit < 64
   pub set : bit_at block.ends bit ≡ 1
@@ -37,7 +37,7 @@ pub record Stands (blocks : List Block) (n number bit : ℕ) : Type 0 where
       ++ block_places (at + 64 * number + 64) (drop (number + 1) blocks))
 
 -- the block of that number is the last before which there are no more than n
-pub record IsLastBefore (blocks : List Block) (n number : ℕ) : Type 0 where
+pub record IsLastBefore (blocks : List ByteBlock) (n number : ℕ) : Type 0 where
   pub within : number < length blocks
   pub before : rank blocks number ≤ n
   pub next : number + 1 < length blocks → n < rank blocks (number + 1)

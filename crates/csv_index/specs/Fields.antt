@@ -2,7 +2,7 @@
 use Rattle.std.specs.Prelude.{◌≡◌, ℕ, ◌<◌, true, List, length, map, IsUtf8}
 use Rattle.std.specs.List.{AllByRecursion}
 use Rattle.std.specs.Str.{is_utf8, IsCharBoundary}
-use Rattle.raw_fields.specs.Between.{cut, raw_between}
+use Rattle.csv_fields.specs.Between.{cut, raw_between}
 use Rattle.csv_index.specs.Index.{AreAscii, Rise}
 
 -- the places part the text from a place on: they rise, each field is text, and no character is cut

@@ -6,8 +6,8 @@ use Rattle.std.specs.Str.{is_utf8, IsCharBoundary}
 use Rattle.csv_grammar.specs.Records.{Field}
 use Rattle.csv_grammar.specs.Files.{IsTable}
 use Rattle.csv_grammar.specs.Raw.{RawField, RawTable, raw_of, field_of}
-use Rattle.raw_fields.specs.Between.{cut, raw_between}
-use Rattle.raw_fields.specs.Rows.{rows_cut}
+use Rattle.csv_fields.specs.Between.{cut, raw_between}
+use Rattle.csv_fields.specs.Rows.{rows_cut}
 
 -- how a header and rows stand
 abbrev pub raw_table : List Field → List (List Field) → RawTable

@@ -1,9 +1,9 @@
 -- The rows of a file by parts: those of one part, and those that are left after it.
 use Rattle.std.specs.Prelude.{◌≡◌, ℕ, ◌+◌, ◌*◌, ◌≤◌, List, [], ◌++◌, length, map, take, drop, min, slice_index}
 use Rattle.csv_grammar.specs.Raw.{RawField}
-use Rattle.raw_fields.specs.Between.{cut, raw_between}
+use Rattle.csv_fields.specs.Between.{cut, raw_between}
 use Rattle.csv_index.specs.Fields.{AreLeft}
-use Rattle.raw_fields.specs.Rows.{rows_cut}
+use Rattle.csv_fields.specs.Rows.{rows_cut}
 use Rattle.csv_index.specs.declared.parts.Parts.TheInside.{Inside}
 use Rattle.csv_index.specs.declared.parts.TheConstants.{PART_ROWS}
 

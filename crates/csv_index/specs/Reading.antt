@@ -6,7 +6,7 @@ use Rattle.csv_grammar.specs.Structure.{Role, separator, record_end, inner, AreR
 use Rattle.csv_grammar.specs.Following.{TextCarry, carry_of}
 use Rattle.csv_index.specs.Blocks.{block_places, AreRanked}
 use Rattle.csv_index.specs.Widths.{uncounted, roles_counted}
-use Rattle.csv_index.specs.declared.blocks.Block.{Block}
+use Rattle.csv_index.specs.declared.blocks.ByteBlock.{ByteBlock}
 use Rattle.csv_index.specs.declared.reading.Reading.{Reading}
 use Rattle.csv_index.specs.declared.widths.Widths.{Widths}
 
@@ -30,7 +30,7 @@ open_after was (role ∷ roles) = open_after (role_open role) roles
 
 -- the first n blocks of the text are read, the last of which may be short: what is carried is the carry of their bytes, which have a continuation in
 -- the grammar; the roles of these bytes there say where the places of the blocks stand, what is counted, and whether a record is under way
-pub record HasReadText (text : List ℕ) (n : ℕ) (carry : TextCarry) (blocks : List Block) (widths : Widths) (unended : Bool) : Type 0 where
+pub record HasReadText (text : List ℕ) (n : ℕ) (carry : TextCarry) (blocks : List ByteBlock) (widths : Widths) (unended : Bool) : Type 0 where
   pub carried : carry ≡ carry_of (take (64 * n) text)
   pub viable : IsViable (take (64 * n) text)
   pub roles : List Role

@@ -8,7 +8,7 @@ use quote_parity::select;
 
 /// A block of 64 bytes.
 #[derive(Clone, Copy)]
-pub struct Block {
+pub struct ByteBlock {
     /// The structural places of the block: bit i speaks of byte i.
     pub ends: u64,
     /// How many stand before the block.
@@ -16,7 +16,7 @@ pub struct Block {
 }
 
 /// Returns the structural place of number `n`, counted from 0: the number of its block, and its bit there.
-pub fn find(blocks: &[Block], n: usize) -> Option<(usize, u32)>
+pub fn find(blocks: &[ByteBlock], n: usize) -> Option<(usize, u32)>
     requires { AreRanked blocks.now }
     ensures { MatchOption result (length (block_places 0 blocks.now) ≤ n)
         (λ found. Stands blocks.now n found.0 found.1) }
@@ -31,7 +31,7 @@ pub fn find(blocks: &[Block], n: usize) -> Option<(usize, u32)>
 }
 
 /// Returns the number of the last block before which there are no more than `n` structural places, by halving.
-fn last_before(blocks: &[Block], n: usize) -> usize
+fn last_before(blocks: &[ByteBlock], n: usize) -> usize
     requires some { 0 < length blocks.now }
     requires ranked { AreRanked blocks.now }
     ensures { IsLastBefore blocks.now n result }

@@ -1,7 +1,7 @@
 //! The places after the fields of a file, one after another, each by clearing the lowest set bit of a mask.
 ghost use Rattle.std.specs.Prelude.{◌≡◌, ◌<◌, ◌≤◌, [], ◌∷◌, MatchOption, length, slice_index, take, drop};
 
-use crate::blocks::Block;
+use crate::blocks::ByteBlock;
 use std::marker::Model;
 
 /// The places that are left.
@@ -12,7 +12,7 @@ pub struct Ends<'i> {
     /// Where that block begins.
     pub base: usize,
     /// The blocks after it.
-    pub rest: &'i [Block],
+    pub rest: &'i [ByteBlock],
     /// The end of a last record with no line break.
     pub last: Option<usize>,
 }

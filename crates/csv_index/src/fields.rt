@@ -1,9 +1,9 @@
 //! The fields of a file in order.
 ghost use Rattle.std.specs.Prelude.{◌≡◌, [], ◌∷◌, MatchOption, drop};
-ghost use Rattle.raw_fields.specs.Raw.{raw_view};
+ghost use Rattle.csv_fields.specs.Raw.{raw_view};
 
 use crate::ends::Ends;
-use raw_fields::{Raw, between};
+use csv_fields::{Raw, between};
 use std::marker::Model;
 
 /// The fields that are left, the next one first and record after record.
@@ -20,8 +20,8 @@ pub struct Fields<'i, 'a> {
 impl<'i, 'a> Model for Fields<'i, 'a> {
     ghost use Rattle.std.specs.Prelude.{List, map};
     ghost use Rattle.csv_grammar.specs.Raw.{RawField};
-    ghost use Rattle.raw_fields.specs.Between.{raw_between};
-    ghost use Rattle.raw_fields.specs.Between.{cut};
+    ghost use Rattle.csv_fields.specs.Between.{raw_between};
+    ghost use Rattle.csv_fields.specs.Between.{cut};
     ghost use Rattle.csv_index.specs.Fields.{AreLeft};
 
     ghost Value = { List RawField };

@@ -1,14 +1,14 @@
 //! The places of a file's fields.
 ghost use Rattle.std.specs.Prelude.{◌≡◌, ◌≤◌, ◌<◌, ◌+◌, ◌*◌, Some, IfOk, IfErr, IsUtf8, slice_get, length, drop};
 ghost use Rattle.std.specs.Str.{IsCharBoundary};
-ghost use Rattle.raw_fields.specs.Raw.{raw_view};
+ghost use Rattle.csv_fields.specs.Raw.{raw_view};
 ghost use Rattle.csv_index.specs.Index.{FitsFile, IsIndexOf, first_bytes, first_places, table_in, row_fields, raws, start_at};
-ghost use Rattle.raw_fields.specs.Rows.{cell_at};
+ghost use Rattle.csv_fields.specs.Rows.{cell_at};
 ghost use Rattle.csv_grammar.specs.Files.{text_of};
 ghost use Rattle.csv_index.specs.Fault.{IsTextFault};
 ghost use Rattle.csv_index.specs.Reading.{bytes_left, IsBlockReading};
 
-use crate::blocks::{Block, find};
+use crate::blocks::{ByteBlock, find};
 use crate::ends::Ends;
 use crate::fault::TextFault;
 use crate::fields::Fields;
@@ -18,7 +18,7 @@ use crate::structure::{Structure, begin, read_on};
 use crate::utf8::check_text;
 use csv_grammar::mark_len;
 use lane_class::BLOCK;
-use raw_fields::{Raw, between, piece};
+use csv_fields::{Raw, between, piece};
 use std::alloc::{AllocError, Global};
 use std::marker::Model;
 
@@ -28,7 +28,7 @@ pub struct Index {
     start: usize,
     width: usize,
     rows: usize,
-    blocks: Vec<Block>,
+    blocks: Vec<ByteBlock>,
     /// The end of a last record with no line break.
     last: Option<usize>,
 }
@@ -88,7 +88,7 @@ impl Index {
         ensures table { IfOk result (λ index. IsIndexOf index bytes.now) }
         ensures fault { IfErr result (IsTextFault bytes.now) }
     {
-        raw_fields::fields_stand_so();
+        csv_fields::fields_stand_so();
         let start = mark_len(bytes);
         let structure = Structure::of(reading, bytes, start)?;
         let widths = structure.widths;
@@ -204,7 +204,7 @@ impl Index {
         };
         let block = self.blocks[number];
         self.blocks.truncate(number);
-        self.blocks.push_reserved(Block {
+        self.blocks.push_reserved(ByteBlock {
             ends: block.ends & (u64::MAX >> (63 - bit)),
             before: block.before,
         });

@@ -1,9 +1,9 @@
 //! The text of a file with its index.
 ghost use Rattle.std.specs.Prelude.{◌≡◌, ◌≤◌, ◌<◌, [], Some, IfOk, IfErr, slice_get, length, take, drop, string_bytes};
 ghost use Rattle.std.specs.List.{AllByRecursion};
-ghost use Rattle.raw_fields.specs.Raw.{raw_view};
+ghost use Rattle.csv_fields.specs.Raw.{raw_view};
 ghost use Rattle.csv_index.specs.Index.{IsIndexOf, IsRawTable, row_fields};
-ghost use Rattle.raw_fields.specs.Rows.{cell_at};
+ghost use Rattle.csv_fields.specs.Rows.{cell_at};
 ghost use Rattle.csv_index.specs.Fault.{IsTextFault};
 
 use crate::fault::TextFault;
@@ -11,7 +11,7 @@ use crate::fields::Fields;
 use crate::index::Index;
 use crate::indexing::{Indexed, Indexing};
 use crate::parts::Parts;
-use raw_fields::Raw;
+use csv_fields::Raw;
 use std::alloc::{AllocError, Global};
 use std::marker::Model;
 

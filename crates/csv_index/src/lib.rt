@@ -23,5 +23,5 @@ pub use index::Index;
 pub use indexed_text::IndexedText;
 pub use indexing::{Indexed, Indexing};
 pub use parts::{PART_ROWS, Parts};
-pub use raw_fields::Raw;
+pub use csv_fields::Raw;
 pub use utf8::text_of;

@@ -2,7 +2,7 @@
 ghost use Rattle.std.specs.Prelude.{◌≡◌};
 
 use crate::ends::Ends;
-use raw_fields::Part;
+use csv_fields::Part;
 use std::marker::Model;
 
 /// How many rows a part has; the last may have fewer.

@@ -3,7 +3,7 @@ ghost use Rattle.std.specs.Prelude.{◌≡◌, ℕ, ◌+◌, ◌-◌, ◌*◌, �
 ghost use Rattle.std.specs.Vec.{vec_len, vec_capacity};
 ghost use Rattle.csv_index.specs.Reading.{bytes_left, HasReadBlocks, IsBlockReading, HasFaultFrom};
 
-use crate::blocks::Block;
+use crate::blocks::ByteBlock;
 use crate::widths::Widths;
 use csv_grammar::{one_structure, what_follows};
 use lane_class::{BLOCK, classify, load};
@@ -13,7 +13,7 @@ use std::alloc::{AllocError, Global};
 /// What is known after the blocks that are read.
 #[derive(Drop)]
 pub struct Reading {
-    pub blocks: Vec<Block>,
+    pub blocks: Vec<ByteBlock>,
     pub carry: Carry,
     pub widths: Widths,
     /// The last byte ends no record, so one is under way.
@@ -87,7 +87,7 @@ impl Reading {
             return Err(rest.len() - masks.fault.trailing_zeros() as usize);
         }
         let ends = masks.sep | masks.eol;
-        blocks.push_reserved(Block {
+        blocks.push_reserved(ByteBlock {
             ends,
             before: widths.places,
         });

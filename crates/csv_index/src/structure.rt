@@ -8,7 +8,7 @@ ghost use Rattle.csv_index.specs.Fault.{text_cause, IsTextFault};
 ghost use Rattle.csv_index.specs.Reading.{bytes_left, IsBlockReading};
 ghost use Rattle.csv_index.specs.Structure.{ReadsAsRecords, HasTextFault};
 
-use crate::blocks::Block;
+use crate::blocks::ByteBlock;
 use crate::fault::TextFault;
 use crate::reading::Reading;
 use crate::widths::Widths;
@@ -19,7 +19,7 @@ use std::alloc::Global;
 /// What is known of a file that is records.
 #[derive(Drop)]
 pub struct Structure {
-    pub blocks: Vec<Block>,
+    pub blocks: Vec<ByteBlock>,
     /// The end of a last record with no line break.
     pub last: Option<usize>,
     pub widths: Widths,

@@ -7,4 +7,4 @@ mod records;
 mod shape;
 
 pub use cure::{Cure, SEPARATORS, cure_of};
-pub use records::{Record, Records, line_after};
+pub use records::{RecordShape, Records, line_after};

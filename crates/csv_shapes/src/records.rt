@@ -13,7 +13,7 @@ pub fn line_after(line: usize, bytes: &[u8]) -> usize {
 
 /// A record of a file.
 #[derive(Clone, Copy)]
-pub struct Record {
+pub struct RecordShape {
     /// The line in which it begins, counted from 1.
     pub line: usize,
     /// How many fields it has: one more than it has separators outside double quotes.
@@ -53,7 +53,7 @@ impl<'a> Records<'a> {
     }
 
     /// Passes the next record, and returns it. At the end of the file that is an empty one.
-    pub fn next_record(&mut self) -> Record {
+    pub fn next_record(&mut self) -> RecordShape {
         let line = self.line;
         let bytes = self.bytes;
         let mut fields: usize = 1;
@@ -74,7 +74,7 @@ impl<'a> Records<'a> {
                 _ => {}
             }
         }
-        Record {
+        RecordShape {
             line,
             fields,
             is_blank,

@@ -1,5 +1,5 @@
 //! How many fields the records of a file have.
-use crate::records::{Record, Records};
+use crate::records::{RecordShape, Records};
 
 /// The rows that a header and its rows are at least, for each line of a title before them.
 const ROWS_FOR_TITLE: usize = 2;
@@ -50,7 +50,7 @@ impl Shape {
     }
 
     /// Adds a record.
-    fn add(&mut self, record: Record) {
+    fn add(&mut self, record: RecordShape) {
         self.rows = self.rows.saturating_add(1);
         if record.fields == self.header.saturating_add(1) {
             self.longer = self.longer.saturating_add(1);

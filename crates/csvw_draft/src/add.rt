@@ -1,6 +1,6 @@
 //! Metadata with the tables and the columns that it does not have yet.
 use cell_types::Column;
-use csvw_guess::{column_json, next_name, table_json};
+use schema_inference::{column_json, next_name, table_json};
 use csvw_meta::Schema;
 use json_splice::{Splice, items_at, member_at, spliced};
 use std::alloc::{AllocError, Global};

@@ -3,9 +3,9 @@ use crate::draft::draft_folder;
 use crate::explain::tell_folder;
 use crate::status::{DEVICE, DONE, MEMORY, USAGE, status_of};
 use crate::told::status_after;
-use command_words::{WordsFault, line_of, system_words};
+use cli_args::{ArgsFault, line_of, system_words};
 use convert_folders::convert_folder;
-use draft_words::{USAGE_LINE, Words, read_words};
+use draft_args::{USAGE_LINE, DraftCommand, read_words};
 use std::io::{self, ErrorKind, IsTerminal};
 use std::rt::Files;
 
@@ -47,18 +47,18 @@ fn end_of(rt: &HostRuntime, folder: &str, end: io::Result<u8>) -> u8 {
 }
 
 /// Does what the words ask for, or reports why there is nothing to do. If someone looks on, it reports long work.
-fn words_status(rt: &HostRuntime, words: Result<Words<'_>, WordsFault>) -> u8 {
+fn words_status(rt: &HostRuntime, words: Result<DraftCommand<'_>, ArgsFault>) -> u8 {
     match words {
-        Ok(Words::Draft(asks)) => {
+        Ok(DraftCommand::Draft(asks)) => {
             let end = draft_folder(rt, &asks, rt.stderr().is_terminal());
             end_of(rt, asks.folder, end)
         }
-        Ok(Words::Show { folder }) => end_of(rt, folder, Ok(tell_folder(rt, folder, false))),
-        Ok(Words::Explain { folder }) => end_of(rt, folder, Ok(tell_folder(rt, folder, true))),
-        Ok(Words::Convert(asks)) => end_of(rt, asks.folder, convert_folder(rt, &asks)),
-        Err(WordsFault::Shows(text)) => status_after(text.print(rt), DONE),
-        Err(WordsFault::Usage) => usage_status(rt),
-        Err(WordsFault::NoMemory) => memory_status(rt),
+        Ok(DraftCommand::Show { folder }) => end_of(rt, folder, Ok(tell_folder(rt, folder, false))),
+        Ok(DraftCommand::Explain { folder }) => end_of(rt, folder, Ok(tell_folder(rt, folder, true))),
+        Ok(DraftCommand::Convert(asks)) => end_of(rt, asks.folder, convert_folder(rt, &asks)),
+        Err(ArgsFault::Shows(text)) => status_after(text.print(rt), DONE),
+        Err(ArgsFault::Usage) => usage_status(rt),
+        Err(ArgsFault::NoMemory) => memory_status(rt),
     }
 }
 

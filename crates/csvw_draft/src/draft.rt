@@ -5,9 +5,9 @@ use crate::left_out::{refuse_files, warn_of_left_out};
 use crate::status::{DONE, MEMORY, status_of};
 use crate::told::{SEE_EXPLAIN, print_text, refuse_cause, refuse_for, status_after};
 use crate::warning::warn_of;
-use csvw_guess::{Aims, DraftFault, accepted_text, draft_of, guess_of};
+use schema_inference::{Aims, DraftFault, accepted_text, draft_of, guess_of};
 use csvw_meta::{Limits, MetaFault, Schema, Schemas};
-use draft_words::Asks;
+use draft_args::DraftOptions;
 use served_folders::METADATA;
 use std::fs::File;
 use std::io::{self, ErrorKind, Write};
@@ -78,7 +78,7 @@ fn replace_metadata(rt: &HostRuntime, path: &str, text: &[u8]) -> io::Result<u8>
 }
 
 /// Gives the text of metadata: prints it, or writes it at a path; and returns the exit status.
-fn give_metadata(rt: &HostRuntime, asks: &Asks<'_>, path: &str, text: &[u8]) -> io::Result<u8> {
+fn give_metadata(rt: &HostRuntime, asks: &DraftOptions<'_>, path: &str, text: &[u8]) -> io::Result<u8> {
     if asks.write && asks.add {
         return replace_metadata(rt, path, text);
     }
@@ -114,7 +114,7 @@ fn added_draft(
 }
 
 /// Returns the metadata of a folder, if it is asked for and there is one.
-fn old_metadata(rt: &HostRuntime, asks: &Asks<'_>) -> io::Result<Option<Vec<u8>>> {
+fn old_metadata(rt: &HostRuntime, asks: &DraftOptions<'_>) -> io::Result<Option<Vec<u8>>> {
     if !asks.add {
         return Ok(None);
     }
@@ -130,7 +130,7 @@ fn old_metadata(rt: &HostRuntime, asks: &Asks<'_>) -> io::Result<Option<Vec<u8>>
 /// Reports what the publisher of files should look at, and gives their metadata as it is asked for.
 fn give_draft(
     rt: &HostRuntime,
-    asks: &Asks<'_>,
+    asks: &DraftOptions<'_>,
     files: Vec<NamedFile>,
     path: &str,
 ) -> io::Result<u8> {
@@ -157,7 +157,7 @@ fn give_draft(
 }
 
 /// Drafts the metadata of a folder, and prints it, or writes it there. If someone looks on, it reports long work.
-pub fn draft_folder(rt: &HostRuntime, asks: &Asks<'_>, tells: bool) -> io::Result<u8> {
+pub fn draft_folder(rt: &HostRuntime, asks: &DraftOptions<'_>, tells: bool) -> io::Result<u8> {
     let path = path_in(rt.alloc(), asks.folder, METADATA)?;
     if asks.write && !asks.add && rt.symlink_metadata(path.as_str()).is_ok() {
         Ok(refuse_for(rt, NOT_WRITTEN))

@@ -4,7 +4,7 @@ use crate::status::{DEVICE, MEMORY, REFUSED, status_of};
 use crate::told::{SEE_EXPLAIN, print_text, refuse, refuse_cause, refuse_for, status_after, tell};
 use catalog_sheet::catalog_text;
 use csvw_meta::{Limits, MetaFault, Schema, Schemas};
-use folder_report::{Line, Report, cut, refuse_metadata, refuse_table};
+use diagnostics::{Line, Report, cut, refuse_metadata, refuse_table};
 use served_folders::{Disk, FolderFault, Folders, METADATA};
 use std::io::{self, ErrorKind};
 use std::mem::replace;

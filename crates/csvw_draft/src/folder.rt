@@ -1,5 +1,5 @@
 //! The CSV files of a folder on a disk.
-use folder_report::cut;
+use diagnostics::cut;
 use served_folders::read_plain;
 use std::alloc::{AllocError, Global};
 use std::fs;

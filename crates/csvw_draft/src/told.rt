@@ -1,6 +1,6 @@
 //! What the program prints: a line on standard error for each finding, and the texts that were asked for.
 use crate::status::{DONE, MEMORY, REFUSED, status_of};
-use folder_report::Line;
+use diagnostics::Line;
 use std::io::{self, ErrorKind};
 use table_store::LoadFault;
 

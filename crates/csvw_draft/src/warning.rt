@@ -1,8 +1,8 @@
 //! What the publisher of files should look at.
 use crate::told::tell;
-use csvw_guess::Guess;
+use schema_inference::Guess;
 use draft_warnings::{file_of, is_said, push_warning};
-use folder_report::{Line, cut};
+use diagnostics::{Line, cut};
 use std::io;
 use table_store::NamedFile;
 

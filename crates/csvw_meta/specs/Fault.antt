@@ -1,6 +1,6 @@
 -- What metadata is refused for, and the text of it.
 use Rattle.std.specs.Prelude.{ℕ, List, ◌++◌, codes, Option, None, Some, string_bytes}
-use Rattle.message_text.specs.Escapes.{escaped}
+use Rattle.text_escapes.specs.Escapes.{escaped}
 use Rattle.csvw_meta.specs.declared.fault.MetaFault.{MetaFault}
 use Rattle.csvw_meta.specs.declared.fault.MetaFault.TheVariants as meta
 

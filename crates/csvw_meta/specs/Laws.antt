@@ -3,8 +3,8 @@ use Rattle.std.specs.Prelude.{◌≡◌, ◌≢◌, ℕ, ◌+◌, ◌^◌, ◌<�
 use Rattle.std.specs.List.{All, IsDistinct, flat_map, starts_with}
 use Rattle.std.specs.Str.{bytes_eq}
 use Rattle.serde_json.specs.Data.{Data, null}
-use Rattle.message_text.specs.Escapes.{escaped}
-use Rattle.message_text.specs.Laws.{HasNoBackslash, IsOneLine}
+use Rattle.text_escapes.specs.Escapes.{escaped}
+use Rattle.text_escapes.specs.Laws.{HasNoBackslash, IsOneLine}
 use Rattle.csv_grammar.specs.Bytes.{byte_order_mark}
 use Rattle.cell_types.specs.Column.{ColumnOf}
 use Rattle.csvw_meta.specs.declared.fault.MetaFault.{MetaFault}

@@ -2,7 +2,7 @@
 ghost use Rattle.std.specs.Prelude.{◌≡◌, IfOk, string_bytes};
 ghost use Rattle.csvw_meta.specs.Fault.{meta_fault_name, meta_fault_text};
 
-use message_text::escaped;
+use text_escapes::escaped;
 use std::alloc::{AllocError, Global};
 
 /// The first fault of the walk over metadata.

@@ -2,7 +2,7 @@
 ghost use Rattle.csvw_meta.specs.Laws.{AcceptedSchemas, DefaultsAreShort, LevelsAreOfForm, MarkIsDropped, NearestLevel, SchemasOrCause, ProfileSizes, TextsTellFaultsApart};
 ghost use Rattle.csvw_meta.specs.Worked.{WorkedMetadata};
 
-use message_text::{escaped_texts_are_one_line, plain_texts_are_one_line, texts_stay_apart};
+use text_escapes::{escaped_texts_are_one_line, plain_texts_are_one_line, texts_stay_apart};
 
 /// Accepted metadata has at least one table and no more than the limit, with different urls of their form and different names, each with
 /// at least one column and no more than the limit, with different names of their form, and with a key of places of columns, each once.

@@ -1,6 +1,6 @@
 //! Cells and counts of them, in a line.
 use csv_index::{Index, Raw};
-use folder_report::Line;
+use diagnostics::Line;
 use std::str::from_utf8;
 
 /// Appends a number with commas between its thousands.

@@ -1,8 +1,8 @@
 //! What the publisher of files should look at, and what helps.
 use crate::cells::{push_cell, push_count};
-use csvw_guess::{Guess, Warning};
+use schema_inference::{Guess, Warning};
 use csvw_meta::Schema;
-use folder_report::Line;
+use diagnostics::Line;
 use table_store::NamedFile;
 
 /// Returns what reads fields that a byte separates.

@@ -5,7 +5,7 @@ use Rattle.csv_records.specs.Exchange.{Exchange, exchanged, exchanged_content}
 use Rattle.csv_records.specs.Lines.{after_lines, with_feeds}
 use Rattle.csv_records.specs.Written.{AreRows, HaveCells, row_bytes, rows_bytes}
 use Rattle.text_encodings.specs.Encodings.{IsTextIn}
-use Rattle.file_convert.specs.declared.asks.Asks.{Asks}
+use Rattle.file_convert.specs.declared.asks.ConvertOptions.{ConvertOptions}
 use Rattle.file_convert.specs.declared.report.Converted.{Converted}
 use Rattle.file_convert.specs.declared.table.Reading.{Reading}
 use Rattle.file_convert.specs.Rows.{Plan, AreTitled, AreWritten, plan_of}
@@ -37,7 +37,7 @@ pub record IsConvertedTable (plans : List Plan) (pads : Bool) (separator : ℕ) 
   pub written : AreRows bytes (titles ∷ outs)
 
 -- the bytes of a file are a text, and what is written is its table
-pub record IsConversion (asks : Asks) (file : List ℕ) (made : Converted) : Type 0 where
+pub record IsConversion (asks : ConvertOptions) (file : List ℕ) (made : Converted) : Type 0 where
   pub text : List ℕ
   pub decoded : IsTextIn made.encoding file text
   pub table : IsConvertedTable (map plan_of made.columns.items) asks.pads made.separator (kept_text asks.skip_lines text) made.bytes.items

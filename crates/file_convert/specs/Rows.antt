@@ -4,14 +4,14 @@ use Rattle.value_forms.specs.declared.form.Form.{Form}
 use Rattle.value_forms.specs.declared.form.Form.TheVariants.{Number, Round, DayAndTime}
 use Rattle.value_forms.specs.Forms.{CellMade, IsMadeBy}
 use Rattle.column_forms.specs.Choice.{is_plain_form}
-use Rattle.column_forms.specs.Seen.{IsSeen, is_null_word}
+use Rattle.column_forms.specs.CellsSeen.{IsSeen, is_null_word}
 use Rattle.file_convert.specs.declared.report.ColumnReport.{ColumnReport}
-use Rattle.file_convert.specs.declared.report.Kind.{Kind}
-use Rattle.file_convert.specs.declared.report.Kind.TheVariants.{Form as OfForm, Empty}
+use Rattle.file_convert.specs.declared.report.ReportKind.{ReportKind}
+use Rattle.file_convert.specs.declared.report.ReportKind.TheVariants.{Form as OfForm, Empty}
 
 -- what is found in a column, and whether its numbers are rounded
 pub record Plan : Type 0 where
-  pub kind : Kind
+  pub kind : ReportKind
   pub rounds : Bool
 
 abbrev pub plan_of : ColumnReport → Plan
@@ -26,12 +26,12 @@ abbrev pub is_empty_line : List (List ℕ) → Bool
 is_empty_line ([] ∷ []) = true
 is_empty_line _ = false
 
-abbrev pub is_dropped : Kind → Bool
+abbrev pub is_dropped : ReportKind → Bool
 is_dropped Empty = true
 is_dropped _ = false
 
 -- the times of day get a column of their own
-abbrev pub has_time : Kind → Bool
+abbrev pub has_time : ReportKind → Bool
 has_time (OfForm (DayAndTime form)) = true
 has_time _ = false
 
@@ -52,7 +52,7 @@ abbrev pub IsMadeUnlessNull : Bool → Bool → Form → List ℕ → Option Cel
 IsMadeUnlessNull true rounds form cell made = made ≡ None
 IsMadeUnlessNull false rounds form cell made = IsMadeOf (is_plain_form form) rounds form cell made
 
-abbrev pub IsMadeIn : Kind → Bool → List ℕ → Option CellMade → Type 0
+abbrev pub IsMadeIn : ReportKind → Bool → List ℕ → Option CellMade → Type 0
 IsMadeIn (OfForm form) rounds cell made = IsMadeUnlessNull (is_null_word cell) rounds form cell made
 IsMadeIn _ rounds cell made = made ≡ None
 
@@ -65,11 +65,11 @@ time_text None = []
 time_text (Some made) = unwrap_or made.time []
 
 -- what is written for a cell with a value, or for one that is left as it is
-abbrev pub out_cells : Kind → List ℕ → Option CellMade → List (List ℕ)
+abbrev pub out_cells : ReportKind → List ℕ → Option CellMade → List (List ℕ)
 out_cells kind cell made =
     if is_dropped kind then [] else cell_text cell made ∷ (if has_time kind then time_text made ∷ [] else [])
 
-abbrev pub title_cells : Kind → List ℕ → List (List ℕ)
+abbrev pub title_cells : ReportKind → List ℕ → List (List ℕ)
 title_cells kind title =
     if is_dropped kind then [] else title ∷ (if has_time kind then (title ++ codes "_time") ∷ [] else [])
 

@@ -29,7 +29,7 @@ pub struct Rule<'a> {
 
 /// What is asked for in the conversion of a file.
 #[derive(Clone, Copy)]
-pub struct Asks<'a> {
+pub struct ConvertOptions<'a> {
     /// Lines before the header that are left out.
     pub skip_lines: usize,
     /// Short rows get empty cells.
@@ -54,7 +54,7 @@ fn add<'a>(wants: &mut Wants<'a>, what: What<'a>) {
     }
 }
 
-impl<'a> Asks<'a> {
+impl<'a> ConvertOptions<'a> {
     /// Returns what is asked for in a column by its header cell.
     pub(crate) fn wants(&self, title: &str) -> Wants<'a> {
         let mut wants = Wants {

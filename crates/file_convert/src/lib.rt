@@ -18,8 +18,8 @@ mod source;
 mod table;
 mod titles;
 
-pub use asks::{Asks, Rule, What};
+pub use asks::{ConvertOptions, Rule, What};
 pub use column_forms::NULLS;
 pub use conversion::convert;
 pub use fault::ConvertFault;
-pub use report::{ColumnReport, Converted, Kind};
+pub use report::{ColumnReport, Converted, ReportKind};

@@ -3,7 +3,7 @@ ghost use Rattle.std.specs.Prelude.{◌≡◌, ◌++◌, IfOk, OnOk, map, option
 ghost use Rattle.value_forms.specs.Forms.{cell_made};
 ghost use Rattle.file_convert.specs.Rows.{IsMadeIn, has_time, is_dropped, out_cells, rounding, title_cells};
 
-use crate::report::Kind;
+use crate::report::ReportKind;
 use column_forms::{is_plain, null_place, seen_text};
 use csv_records::push_cell;
 use std::alloc::{AllocError, Global};
@@ -13,17 +13,17 @@ use value_forms::{Form, Made, NumberForm, made_by};
 const TIME: &[u8] = b"_time";
 
 /// Returns true if the times of day of a column get one of their own.
-pub(crate) fn has_time(kind: Kind) -> bool
+pub(crate) fn has_time(kind: ReportKind) -> bool
     ensures { result ≡ has_time kind }
 {
-    matches!(kind, Kind::Form(Form::DayAndTime(_)))
+    matches!(kind, ReportKind::Form(Form::DayAndTime(_)))
 }
 
 /// Returns true if a column is left out.
-pub(crate) fn is_dropped(kind: Kind) -> bool
+pub(crate) fn is_dropped(kind: ReportKind) -> bool
     ensures { result ≡ is_dropped kind }
 {
-    matches!(kind, Kind::Empty)
+    matches!(kind, ReportKind::Empty)
 }
 
 /// Returns a form with the rounding that is asked for.
@@ -39,13 +39,13 @@ fn rounding(rounds: bool, form: Form<'static>) -> Form<'static>
 /// Returns the value of a cell by what is found in its column.
 pub(crate) fn made_in(
     alloc: Global,
-    kind: Kind,
+    kind: ReportKind,
     rounds: bool,
     cell: &[u8],
 ) -> Result<Option<Made>, AllocError>
     ensures { IfOk result (λ made. IsMadeIn kind rounds cell.now (option_map cell_made made)) }
 {
-    let Kind::Form(form) = kind else {
+    let ReportKind::Form(form) = kind else {
         return Ok(None);
     };
     if null_place(cell).is_some() {
@@ -66,7 +66,7 @@ pub(crate) fn made_in(
 pub(crate) fn push_made(
     alloc: Global,
     row: &mut Vec<Vec<u8>>,
-    kind: Kind,
+    kind: ReportKind,
     cell: &[u8],
     made: Option<Made>,
 ) -> Result<(), AllocError>
@@ -92,7 +92,7 @@ pub(crate) fn push_made(
 pub(crate) fn push_titles(
     alloc: Global,
     row: &mut Vec<Vec<u8>>,
-    kind: Kind,
+    kind: ReportKind,
     title: &[u8],
 ) -> Result<(), AllocError>
     ensures { OnOk result (map (λ cell. cell.items) row.new.items

@@ -3,7 +3,7 @@ use value_forms::Form;
 
 /// What is found in a column.
 #[derive(Clone, Copy)]
-pub enum Kind {
+pub enum ReportKind {
     /// Its cells are of this form.
     Form(Form<'static>),
     /// Nothing but texts.
@@ -21,7 +21,7 @@ pub enum Kind {
 pub struct ColumnReport {
     /// Its header cell.
     pub title: Vec<u8>,
-    pub kind: Kind,
+    pub kind: ReportKind,
     /// How many cells are changed, the line of the first of them, what it was and what it is.
     pub changed: usize,
     pub line: usize,

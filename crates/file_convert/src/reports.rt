@@ -1,14 +1,14 @@
 //! What is found in the columns of a table.
-use crate::asks::Asks;
+use crate::asks::ConvertOptions;
 use crate::cells::cell_at;
 use crate::made::{has_time, is_dropped};
-use crate::report::{ColumnReport, Kind};
+use crate::report::{ColumnReport, ReportKind};
 use crate::sight::Sight;
-use column_forms::{Choice, Point, Seen, Wants, choice_of, point_of};
+use column_forms::{Choice, Point, CellsSeen, Wants, choice_of, point_of};
 use std::alloc::{AllocError, Global};
 
 /// Returns which point the numbers of a file have, where its columns agree.
-fn file_point(columns: &[Seen]) -> Point {
+fn file_point(columns: &[CellsSeen]) -> Point {
     let mut found = Point::Unknown;
     for seen in columns {
         let point = point_of(seen);
@@ -22,7 +22,7 @@ fn file_point(columns: &[Seen]) -> Point {
 }
 
 /// Returns true if no cell of a column says anything.
-fn is_empty(seen: &Seen) -> bool {
+fn is_empty(seen: &CellsSeen) -> bool {
     seen.cells == 0 && seen.nulls.as_slice().iter().all(|count| *count == 0)
 }
 
@@ -30,8 +30,8 @@ fn is_empty(seen: &Seen) -> bool {
 fn report_of(
     alloc: Global,
     title: Vec<u8>,
-    kind: Kind,
-    seen: &Seen,
+    kind: ReportKind,
+    seen: &CellsSeen,
 ) -> Result<ColumnReport, AllocError> {
     Ok(ColumnReport {
         title,
@@ -53,19 +53,19 @@ fn report_of(
 }
 
 /// Returns what is found in a column.
-fn kind_of(seen: &Seen, wants: Wants<'_>, file: Point, separator: u8) -> Kind {
+fn kind_of(seen: &CellsSeen, wants: Wants<'_>, file: Point, separator: u8) -> ReportKind {
     match choice_of(seen, wants, file, separator) {
-        Choice::Form(form) => Kind::Form(form),
-        Choice::Text => Kind::Text,
-        Choice::TwoPoints => Kind::TwoPoints,
-        Choice::TwoOrders => Kind::TwoOrders,
+        Choice::Form(form) => ReportKind::Form(form),
+        Choice::Text => ReportKind::Text,
+        Choice::TwoPoints => ReportKind::TwoPoints,
+        Choice::TwoOrders => ReportKind::TwoOrders,
     }
 }
 
 /// Returns the reports of the columns of a table, in which nothing is changed yet.
 pub(crate) fn reports_of(
     alloc: Global,
-    asks: &Asks<'_>,
+    asks: &ConvertOptions<'_>,
     sight: &Sight,
     separator: u8,
 ) -> Result<Vec<ColumnReport>, AllocError> {
@@ -84,7 +84,7 @@ pub(crate) fn reports_of(
         let mut report = report_of(alloc, title, kind, seen)?;
         report.asked_null = null;
         report.rounds = wants.round;
-        report.is_text = wants.text || matches!(kind, Kind::TwoPoints | Kind::TwoOrders);
+        report.is_text = wants.text || matches!(kind, ReportKind::TwoPoints | ReportKind::TwoOrders);
         reports.push(report).or(Err(AllocError))?;
     }
     drop_columns(columns, reports.as_mut_slice());
@@ -93,12 +93,12 @@ pub(crate) fn reports_of(
 }
 
 /// Marks the columns at the right that have neither a name nor a cell.
-fn drop_columns(columns: &[Seen], reports: &mut [ColumnReport]) {
+fn drop_columns(columns: &[CellsSeen], reports: &mut [ColumnReport]) {
     for (seen, report) in columns.iter().zip(reports.iter_mut()).rev() {
         if !report.title.is_empty() || !is_empty(seen) {
             return;
         }
-        report.kind = Kind::Empty;
+        report.kind = ReportKind::Empty;
     }
 }
 

@@ -4,7 +4,7 @@ ghost use Rattle.file_convert.specs.Rows.{AppendsCells, AreTitled, AreWritten, p
 
 use crate::cells::cell_at;
 use crate::made::{made_in, push_made, push_titles};
-use crate::report::{ColumnReport, Kind};
+use crate::report::{ColumnReport, ReportKind};
 use std::alloc::{AllocError, Global};
 use value_forms::{Form, Made, rounded_text};
 
@@ -54,7 +54,7 @@ impl ColumnReport {
 
     /// Returns true if its cells are numbers.
     fn is_number(&self) -> bool {
-        matches!(self.kind, Kind::Form(Form::Number(_)))
+        matches!(self.kind, ReportKind::Form(Form::Number(_)))
     }
 
     /// Counts what is changed in a cell, or found in it.

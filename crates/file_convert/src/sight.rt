@@ -1,7 +1,7 @@
 //! A look at all cells of a table before it is written.
 use crate::cells::{is_blank, lines_before, record_at};
 use crate::fault::ConvertFault;
-use column_forms::Seen;
+use column_forms::CellsSeen;
 use std::alloc::{AllocError, Global};
 
 /// The most lines that are reported.
@@ -12,7 +12,7 @@ const MOST_LINES: usize = 20;
 pub(crate) struct Sight {
     pub(crate) titles: Vec<Vec<u8>>,
     /// The columns: those of the header, and those of rows with more cells.
-    pub(crate) columns: Vec<Seen>,
+    pub(crate) columns: Vec<CellsSeen>,
     pub(crate) rows: usize,
     /// How many empty lines there are.
     pub(crate) blank: usize,
@@ -27,7 +27,7 @@ impl Sight {
     /// Sees the cells of a row.
     fn see_cells(&mut self, alloc: Global, cells: &[Vec<u8>]) -> Result<(), AllocError> {
         for _column in self.columns.len()..cells.len() {
-            let seen = Seen::new(alloc)?;
+            let seen = CellsSeen::new(alloc)?;
             self.columns.push(seen).or(Err(AllocError))?;
         }
         for (seen, cell) in self.columns.iter_mut().zip(cells) {
@@ -59,10 +59,10 @@ impl Sight {
 }
 
 /// Returns the columns of a header, of which no cell is seen yet.
-fn columns_for(alloc: Global, titles: &[Vec<u8>]) -> Result<Vec<Seen>, AllocError> {
+fn columns_for(alloc: Global, titles: &[Vec<u8>]) -> Result<Vec<CellsSeen>, AllocError> {
     let mut columns = Vec::new(alloc);
     for _title in titles {
-        let seen = Seen::new(alloc)?;
+        let seen = CellsSeen::new(alloc)?;
         columns.push(seen).or(Err(AllocError))?;
     }
     Ok(columns)

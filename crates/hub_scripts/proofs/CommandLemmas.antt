@@ -11,8 +11,8 @@ use Rattle.odata_hub.specs.Schedules.{Event, HubOf, HubStep, Reload, reload}
 use Rattle.odata_hub.specs.Stands.{IsHubStep, Models}
 use Rattle.served_folders.specs.declared.folders.FolderFault.{FolderFault}
 use Rattle.served_folders.specs.declared.folders.FolderFault.TheVariants as folder
-use Rattle.program_ends.specs.declared.fault.ProgramFault.{ProgramFault}
-use Rattle.program_ends.specs.declared.fault.ProgramFault.TheVariants.{Folder, Run, Script, Device, NoMemory}
+use Rattle.exit_statuses.specs.declared.fault.ProgramFault.{ProgramFault}
+use Rattle.exit_statuses.specs.declared.fault.ProgramFault.TheVariants.{Folder, Run, Script, Device, NoMemory}
 use Rattle.served_folders.specs.Folders.{CountsFolderFault, FoldersOf, folder_cause}
 use Rattle.served_folders.specs.Loads.{IsFolderFault, IsLoaded, loading}
 use Rattle.hub_scripts.specs.Replay.{Stage, stage, Outcome, Happened, Kept, Comes, Happens, IsAnsweredInLine, IsKeptFolder, ComesTo}

@@ -10,8 +10,8 @@ use Rattle.odata_http.specs.Device.{SinkOf}
 use Rattle.odata_http.specs.Answer.{HasWritten}
 use Rattle.odata_hub.specs.Schedules.{HubOf, HubRun}
 use Rattle.odata_hub.specs.Stands.{Models}
-use Rattle.program_ends.specs.declared.fault.ProgramFault.{ProgramFault}
-use Rattle.program_ends.specs.declared.fault.ProgramFault.TheVariants.{Folder, Run, Script, Device, NoMemory}
+use Rattle.exit_statuses.specs.declared.fault.ProgramFault.{ProgramFault}
+use Rattle.exit_statuses.specs.declared.fault.ProgramFault.TheVariants.{Folder, Run, Script, Device, NoMemory}
 use Rattle.served_folders.specs.Folders.{FoldersOf}
 use Rattle.served_folders.specs.Loads.{IsLoaded, loading}
 use Rattle.hub_scripts.specs.Replay.{Stage, stage, Outcome, Happened, Kept, outcome_line, outcome_lines, LineComes, Plays, schedule_of, Playing, playing, free_hub, IsPlayed, IsReplay, MayLoadNext, Replay, Replays, Place, IsLinePlayed}

@@ -1,6 +1,6 @@
 -- What holds of what a script prints.
 use Rattle.std.specs.Prelude.{◌≡◌, ℕ, List}
-use Rattle.message_text.specs.Laws.{IsOneLine}
+use Rattle.text_escapes.specs.Laws.{IsOneLine}
 use Rattle.event_scripts.specs.Answers.{line_of}
 use Rattle.event_scripts.specs.Command as command
 use Rattle.hub_scripts.specs.Replay.{Comes, Outcome, Stage, outcome_line}

@@ -14,10 +14,10 @@ use Rattle.odata_hub.specs.Connections.{Answer, Done, Piece, End, Turn, Take}
 use Rattle.odata_hub.specs.Schedules.{Event, Open, On, Drop, Reload, Happening, HubOf, HubRun, HubStep, reload}
 use Rattle.odata_hub.specs.Stands.{Models}
 use Rattle.served_folders.specs.declared.folders.FolderFault.{FolderFault}
-use Rattle.program_ends.specs.declared.fault.ProgramFault.{ProgramFault}
-use Rattle.program_ends.specs.declared.fault.ProgramFault.TheVariants.{Folder, Script, Device, NoMemory}
+use Rattle.exit_statuses.specs.declared.fault.ProgramFault.{ProgramFault}
+use Rattle.exit_statuses.specs.declared.fault.ProgramFault.TheVariants.{Folder, Script, Device, NoMemory}
 use Rattle.hub_scripts.specs.declared.replay.TheConstants.{PLACES}
-use Rattle.program_ends.specs.Text.{fault_text}
+use Rattle.exit_statuses.specs.Text.{fault_text}
 use Rattle.served_folders.specs.Folders.{FoldersOf, folder_cause}
 use Rattle.served_folders.specs.Loads.{IsFolderFault, IsLoaded, loading}
 

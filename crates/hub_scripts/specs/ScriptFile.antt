@@ -3,7 +3,7 @@ use Rattle.std.specs.Prelude.{◌≡◌, ◌≤◌, ◌+◌, ℕ, IfSome, Result
 use Rattle.odata_http.specs.declared.runs.RunFault.{RunFault}
 use Rattle.odata_http.specs.declared.runs.RunFault.TheVariants.{NoMemory, Read, Write, TooManyReads}
 use Rattle.odata_http.specs.Device.{Counts, SourceOf}
-use Rattle.program_ends.specs.declared.fault.TheConstants.{MAX_READS}
+use Rattle.exit_statuses.specs.declared.fault.TheConstants.{MAX_READS}
 
 -- no more reads were made than a script may have
 abbrev pub ReadsFew : SourceOf → SourceOf → Type 0

@@ -11,7 +11,7 @@ use crate::answers::{done_line, opened_line, take_line, turned_line};
 use event_scripts::{Command, CommandFault, first_line, read_command, text_line};
 use odata_http::{Sink, send};
 use odata_hub::{Conn, Hub};
-use program_ends::{ProgramFault, REFUSED, fault_line};
+use exit_statuses::{ProgramFault, REFUSED, fault_line};
 use served_folders::{FolderFault, Folders};
 use std::alloc::Global;
 use std::rc::Rc;
@@ -33,7 +33,7 @@ pub fn plays_schedule()
 pub fn reloads_are_one_line()
     ensures { ReloadsAreOneLine }
 {
-    program_ends::faults_are_one_line();
+    exit_statuses::faults_are_one_line();
 }
 
 /// Returns the line of a folder that is refused. If it is not refused, the fault is given back.

@@ -3,7 +3,7 @@ ghost use Rattle.std.specs.Prelude.{◌<◌, ◌^◌};
 ghost use Rattle.hub_scripts.specs.ScriptFile.{IsScriptRead};
 
 use odata_http::{RunFault, Source};
-use program_ends::MAX_READS;
+use exit_statuses::MAX_READS;
 use std::alloc::Global;
 
 /// The room for one read.

@@ -11,7 +11,7 @@ use Rattle.odata_rounds.specs.declared.answers.SlotState.TheVariants.{Free}
 use Rattle.odata_rounds.specs.declared.slot.Slot.{Slot}
 use Rattle.odata_rounds.specs.Lives.{free_slot}
 use Rattle.listen_sockets.specs.declared.slow.Due.{Due}
-use Rattle.listen_sockets.specs.declared.slow.Limits.{Limits}
+use Rattle.listen_sockets.specs.declared.slow.TimeLimits.{TimeLimits}
 use Rattle.listen_sockets.specs.declared.slow.Seen.{Seen}
 use Rattle.listen_sockets.specs.declared.sockets.Wire.{Wire}
 use Rattle.listen_sockets.specs.Slow.{due_where}
@@ -46,7 +46,7 @@ abbrev pub seen_at : Bool → Option ConnOf → List Wire → ℕ → Seen
 seen_at crowded conn wires place = record { crowded = crowded; awake = is_awake_at wires place; waits = has_waiting conn }
 
 -- this is due of the connection at a place
-abbrev pub IsDueAt : Limits → Bool → ℕ → ℕ → Hub → List Wire → Due → Type 0
+abbrev pub IsDueAt : TimeLimits → Bool → ℕ → ℕ → Hub → List Wire → Due → Type 0
 IsDueAt limits crowded now place hub wires due =
     (h : HubOf) → Models hub h → due ≡ due_where limits (seen_at crowded (conn_at h place) wires place) now (times_at wires place)
 

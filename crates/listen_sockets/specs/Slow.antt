@@ -2,7 +2,7 @@
 use Rattle.std.specs.Prelude.{◌≡◌, ℕ, ◌+◌, ◌*◌, ◌-◌, ◌==◌, ◌^◌, ◌||◌, ◌&&◌, Bool, true, false, not, Option, Some, None, min, nat_le, nat_lt, if◌then◌else◌}
 use Rattle.listen_sockets.specs.declared.slow.Due.{Due}
 use Rattle.listen_sockets.specs.declared.slow.Due.TheVariants.{Nothing, End, Drop, TooLong}
-use Rattle.listen_sockets.specs.declared.slow.Limits.{Limits}
+use Rattle.listen_sockets.specs.declared.slow.TimeLimits.{TimeLimits}
 use Rattle.listen_sockets.specs.declared.slow.Seen.{Seen}
 use Rattle.listen_sockets.specs.declared.slow.Taking.{Taking}
 use Rattle.listen_sockets.specs.declared.slow.Times.{Times}
@@ -29,34 +29,34 @@ abbrev pub takes_little : ℕ → Taking → Bool
 takes_little now taking = taking.little || (has_passed rate_seconds taking.minute now && nat_lt taking.bytes rate_bytes)
 
 -- a reply takes longer than one may; or its peer takes little, while another waits for its place
-abbrev pub is_slow_taking : Limits → Bool → ℕ → Option Taking → Bool
+abbrev pub is_slow_taking : TimeLimits → Bool → ℕ → Option Taking → Bool
 is_slow_taking limits crowded now None = false
 is_slow_taking limits crowded now (Some taking) = has_passed limits.reply taking.began now || (crowded && takes_little now taking)
 
 -- ---- what is due
 
 -- a connection that stood still for too long is dropped
-abbrev pub still_due : Limits → ℕ → Times → Due
+abbrev pub still_due : TimeLimits → ℕ → Times → Due
 still_due limits now times = if has_passed limits.idle times.active now then Drop else Nothing
 
 -- a head that took too long ends its stream, where no output waits for the socket
-abbrev pub due_by : Limits → Bool → ℕ → Times → Option ℕ → Due
+abbrev pub due_by : TimeLimits → Bool → ℕ → Times → Option ℕ → Due
 due_by limits false now times (Some began) = if has_passed limits.head began now then End else Nothing
 due_by limits true now times (Some began) = still_due limits now times
 due_by limits waits now times None = still_due limits now times
 
 -- while something came that was not looked at, nothing stands still
-abbrev pub due_asleep : Limits → Bool → Bool → ℕ → Times → Due
+abbrev pub due_asleep : TimeLimits → Bool → Bool → ℕ → Times → Due
 due_asleep limits true waits now times = Nothing
 due_asleep limits false waits now times = due_by limits waits now times times.head
 
-abbrev pub due_of : Limits → Seen → ℕ → Times → Due
+abbrev pub due_of : TimeLimits → Seen → ℕ → Times → Due
 due_of limits seen now times =
     if works_too_long limits.query times.spent then TooLong
     else (if seen.waits && is_slow_taking limits seen.crowded now times.taking then Drop else due_asleep limits seen.awake seen.waits now times)
 
 -- what is due of a connection with these times; nothing where there is none
-abbrev pub due_where : Limits → Seen → ℕ → Option Times → Due
+abbrev pub due_where : TimeLimits → Seen → ℕ → Option Times → Due
 due_where limits seen now None = Nothing
 due_where limits seen now (Some times) = due_of limits seen now times
 

@@ -2,14 +2,14 @@
 use Rattle.std.specs.Prelude.{◌≡◌, ℕ, Bool, true, false, Option, Some, None}
 use Rattle.listen_sockets.specs.declared.slow.Due.{Due}
 use Rattle.listen_sockets.specs.declared.slow.Due.TheVariants.{Nothing, Drop, TooLong}
-use Rattle.listen_sockets.specs.declared.slow.Limits.{Limits}
+use Rattle.listen_sockets.specs.declared.slow.TimeLimits.{TimeLimits}
 use Rattle.listen_sockets.specs.declared.slow.Seen.{Seen}
 use Rattle.listen_sockets.specs.declared.slow.Taking.{Taking}
 use Rattle.listen_sockets.specs.declared.slow.Times.{Times}
 use Rattle.listen_sockets.specs.Slow.{due_of, is_heavy, times_after_write}
 
 -- 30 seconds for a head, 60 without a step, so many for a query, and an hour for a reply
-abbrev pub limits_of : ℕ → Limits
+abbrev pub limits_of : ℕ → TimeLimits
 limits_of query = record { head = 30; idle = 60; query = query; reply = 3_600 }
 
 -- a connection at work

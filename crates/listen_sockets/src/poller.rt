@@ -5,7 +5,7 @@ ghost use Rattle.listen_sockets.specs.Sockets.{AreMarked, KeepsSockets, KeepsStr
 
 use crate::sockets::Sockets;
 use mio::{Events, Poll, Token};
-use socket_listener::Listener;
+use socket_listener::ListeningSocket;
 use std::io;
 use std::net::Net;
 use std::rt::Clock;
@@ -43,7 +43,7 @@ fn mark(sockets: &mut Sockets, events: &Events) -> bool
 #[derive(Drop)]
 pub struct Poller {
     pub poll: Poll,
-    pub listener: Listener,
+    pub listener: ListeningSocket,
     /// A connection may wait.
     pub accepts: bool,
     /// What the system said last.
@@ -57,7 +57,7 @@ pub struct Poller {
 
 impl Poller {
     /// Over a listener. A connection may wait from the start.
-    pub fn new<R: Net + Clock + AllocGlobal>(rt: &R, mut listener: Listener) -> io::Result<Poller>
+    pub fn new<R: Net + Clock + AllocGlobal>(rt: &R, mut listener: ListeningSocket) -> io::Result<Poller>
         ensures accepts { IfOk result (λ poller. poller.accepts ≡ true) }
         ensures looked { IfOk result (λ poller. poller.looked ≡ 0) }
     {

@@ -4,7 +4,7 @@ ghost use Rattle.odata_rounds.specs.Lives.{free_slot};
 
 use crate::lingering::Lingering;
 use crate::peer::Peer;
-use crate::slow::{Due, Limits, Seen};
+use crate::slow::{Due, TimeLimits, Seen};
 use crate::sockets::Sockets;
 use mio::Poll;
 use odata_hub::{Conn, Hub, HubFault};
@@ -252,7 +252,7 @@ impl Server {
     }
 
     /// Returns what is due of the connection at `place`, by whether another waits for a place.
-    pub fn due(&self, place: u32, limits: &Limits, now: u64, crowded: bool) -> Due
+    pub fn due(&self, place: u32, limits: &TimeLimits, now: u64, crowded: bool) -> Due
         ensures { IsDueAt limits.now crowded now place
             self.now.hub self.now.sockets.wires.items result }
     {

@@ -5,7 +5,7 @@ ghost use Rattle.listen_sockets.specs.Slow.{due_by, due_of, first_taken, fresh_t
 
 /// The most seconds that a head may take, that a connection may stand still, that the service works for a query (0: no limit), and that a reply may take.
 #[derive(Clone, Copy)]
-pub struct Limits {
+pub struct TimeLimits {
     pub head: u32,
     pub idle: u32,
     pub query: u32,
@@ -101,7 +101,7 @@ impl Taking {
 }
 
 /// Returns whether a reply takes longer than `limits` allow, or its peer takes little while another waits for its place.
-fn is_slow_taking(limits: &Limits, crowded: bool, now: u64, taking: Option<Taking>) -> bool
+fn is_slow_taking(limits: &TimeLimits, crowded: bool, now: u64, taking: Option<Taking>) -> bool
     ensures { result ≡ is_slow_taking limits.now crowded now taking }
 {
     match taking {
@@ -174,7 +174,7 @@ impl Times {
     }
 
     /// Returns what stands still for too long. If bytes wait for the socket, that stands still, however far a head came.
-    fn due_still(&self, limits: &Limits, waits: bool, now: u64) -> Due
+    fn due_still(&self, limits: &TimeLimits, waits: bool, now: u64) -> Due
         ensures { result ≡ due_by limits.now waits now self.now self.now.head }
     {
         match self.head {
@@ -196,7 +196,7 @@ impl Times {
     }
 
     /// Returns what is due now of a connection that is as `seen`.
-    pub fn due(&self, limits: &Limits, seen: Seen, now: u64) -> Due
+    pub fn due(&self, limits: &TimeLimits, seen: Seen, now: u64) -> Due
         ensures { result ≡ due_of limits.now seen now self.now }
     {
         if limits.query != 0 && self.spent >= u64::from(limits.query) * MICROS {

@@ -23,18 +23,18 @@ work_may catalog request left ListTables h = tt
 work_may catalog request left (Waits bytes) h = tt
 work_may catalog request left (Replied bytes) h = tt
 work_may catalog request left Failed h = tt
-work_may catalog (refused code) left (Find finding) h = absurd h
-work_may catalog service left (Find finding) h = absurd h
-work_may catalog (rows asked) left (Find finding) h = (asked, h.0)
-work_may catalog (refused code) left (Read reading) h = absurd h
-work_may catalog service left (Read reading) h = absurd h
-work_may catalog (rows asked) left (Read reading) h = (asked, left, h)
+work_may catalog (refused code) left (Find key_lookup) h = absurd h
+work_may catalog service left (Find key_lookup) h = absurd h
+work_may catalog (rows asked) left (Find key_lookup) h = (asked, h.0)
+work_may catalog (refused code) left (Read query_run) h = absurd h
+work_may catalog service left (Read query_run) h = absurd h
+work_may catalog (rows asked) left (Read query_run) h = (asked, left, h)
 
 replied_may : (catalog : CatalogOf) (work : Work) (reply : List ℕ) → IsReplied work reply → MayWork catalog work
 replied_may catalog (Refuse code) reply h = absurd h
 replied_may catalog ListTables reply h = absurd h
-replied_may catalog (Find finding) reply h = absurd h
-replied_may catalog (Read reading) reply h = absurd h
+replied_may catalog (Find key_lookup) reply h = absurd h
+replied_may catalog (Read query_run) reply h = absurd h
 replied_may catalog (Waits bytes) reply h = absurd h
 replied_may catalog (Replied bytes) reply h = tt
 replied_may catalog Failed reply h = absurd h
@@ -42,8 +42,8 @@ replied_may catalog Failed reply h = absurd h
 waiting_may : (catalog : CatalogOf) (work : Work) (reply : List ℕ) → IsWaiting work reply → MayWork catalog work
 waiting_may catalog (Refuse code) reply h = absurd h
 waiting_may catalog ListTables reply h = absurd h
-waiting_may catalog (Find finding) reply h = absurd h
-waiting_may catalog (Read reading) reply h = absurd h
+waiting_may catalog (Find key_lookup) reply h = absurd h
+waiting_may catalog (Read query_run) reply h = absurd h
 waiting_may catalog (Waits bytes) reply h = tt
 waiting_may catalog (Replied bytes) reply h = absurd h
 waiting_may catalog Failed reply h = absurd h

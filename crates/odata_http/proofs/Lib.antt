@@ -1,7 +1,7 @@
 pub mod HeadLemmas
 pub mod LengthLemmas
-pub mod ReadingLemmas
-pub mod FindingLemmas
+pub mod QueryRunLemmas
+pub mod KeyLookupLemmas
 pub mod WorkLemmas
 pub mod LazyLemmas
 pub mod ReplyLemmas

@@ -4,20 +4,20 @@ use Rattle.cell_types.specs.Value.{CellValue}
 use Rattle.table_store.specs.Catalog.{CatalogOf}
 use Rattle.odata_query.specs.Query.{optional_numbers, values_view}
 use Rattle.odata_request.specs.Laws.{KeysStandAlone}
-use Rattle.reply_codes.specs.declared.code.Code.{Code}
+use Rattle.odata_errors.specs.declared.code.Code.{Code}
 use Rattle.http_heads.specs.Head.{HeadOf}
 use Rattle.query_exec.specs.declared.run.Step.{Step}
 use Rattle.odata_request.specs.Request.{IsRowsInside, RequestOf, RowsRequestOf, refused, rows, service}
 use Rattle.http_heads.specs.declared.method.Method.{Method}
 use Rattle.odata_http.specs.declared.exchange.Exchange.{Exchange}
-use Rattle.odata_http.specs.declared.finding.Finding.{Finding}
-use Rattle.odata_http.specs.declared.reading.Reached.{Reached}
-use Rattle.odata_http.specs.declared.reading.Reached.TheVariants.{Over}
-use Rattle.odata_http.specs.declared.reading.Reading.{Reading}
+use Rattle.odata_http.specs.declared.key_lookup.KeyLookup.{KeyLookup}
+use Rattle.odata_http.specs.declared.query_run.Reached.{Reached}
+use Rattle.odata_http.specs.declared.query_run.Reached.TheVariants.{Over}
+use Rattle.odata_http.specs.declared.query_run.QueryRun.{QueryRun}
 use Rattle.odata_http.specs.declared.response.Response.{Response}
 use Rattle.odata_http.specs.declared.work.Work.{Work}
 use Rattle.odata_http.specs.declared.work.Work.TheVariants.{Refuse, ListTables, Find, Read, Waits, Replied, Failed}
-use Rattle.odata_http.specs.Exchange.{Answers, IsFinding, IsReading, IsWork, QueryTakes, most_calls}
+use Rattle.odata_http.specs.Exchange.{Answers, IsKeyLookup, IsQueryRun, IsWork, QueryTakes, most_calls}
 use Rattle.odata_http.specs.Lazy.{GoesUnlaid}
 use Rattle.odata_http.specs.Reply.{RespondsWithRows, ResponseOf, error_response, reply_of, service_response}
 use Rattle.odata_http.specs.Work.{IsAskedFor, ReadsOn, StartsReading, StartsWork, WorksOn, response_view, step_of}
@@ -28,10 +28,10 @@ starts_refusal catalog code = (1, refl, (refl, refl))
 pub starts_listing : (catalog : CatalogOf) → StartsWork catalog service ListTables
 starts_listing catalog = (1, refl, refl)
 
-pub starts_finding : (catalog : CatalogOf) (asked : RowsRequestOf) (finding : Finding) → KeysStandAlone → IsAskedFor catalog (rows asked) → IsRowsInside catalog asked
-    → finding.table ≡ asked.table → finding.format ≡ asked.format → asked.query.key ≡ Some (values_view finding.key) → optional_numbers finding.select ≡ asked.query.select
-    → StartsWork catalog (rows asked) (Find finding)
-starts_finding catalog asked finding alone head inside table format key select = (
+pub starts_finding : (catalog : CatalogOf) (asked : RowsRequestOf) (key_lookup : KeyLookup) → KeysStandAlone → IsAskedFor catalog (rows asked) → IsRowsInside catalog asked
+    → key_lookup.table ≡ asked.table → key_lookup.format ≡ asked.format → asked.query.key ≡ Some (values_view key_lookup.key) → optional_numbers key_lookup.select ≡ asked.query.select
+    → StartsWork catalog (rows asked) (Find key_lookup)
+starts_finding catalog asked key_lookup alone head inside table format key select = (
   1,
   subst (λ (k : Option (List CellValue)). QueryTakes catalog asked k 1) (sym key) refl,
   (
@@ -42,16 +42,16 @@ starts_finding catalog asked finding alone head inside table format key select =
       format_is = format;
       typed = inside.typed;
       key_is = key;
-      unapplied = alone catalog head.0 head.1 asked (values_view finding.key) head.2 key;
+      unapplied = alone catalog head.0 head.1 asked (values_view key_lookup.key) head.2 key;
       select_is = select;
     },
     refl,
   ),
 )
 
-pub starts_run : (catalog : CatalogOf) (asked : RowsRequestOf) (reading : Reading) → asked.query.key ≡ None → StartsReading catalog asked reading
-    → StartsWork catalog (rows asked) (Read reading)
-starts_run catalog asked reading unkeyed starts = (starts.0, subst (λ (k : Option (List CellValue)). QueryTakes catalog asked k starts.0) (sym unkeyed) starts.1, starts.2)
+pub starts_run : (catalog : CatalogOf) (asked : RowsRequestOf) (query_run : QueryRun) → asked.query.key ≡ None → StartsReading catalog asked query_run
+    → StartsWork catalog (rows asked) (Read query_run)
+starts_run catalog asked query_run unkeyed starts = (starts.0, subst (λ (k : Option (List CellValue)). QueryTakes catalog asked k starts.0) (sym unkeyed) starts.1, starts.2)
 
 pub works_refuse : (catalog : CatalogOf) (method : Option Method) (closing : Bool) (request : RequestOf) (left : ℕ) (work : Work) (code : Code) (response : ResponseOf) (bytes : List ℕ)
     → work ≡ Refuse code → response ≡ error_response code → bytes ≡ reply_of method response closing → IsWork catalog request left work
@@ -75,24 +75,24 @@ works_list catalog method closing request left work response bytes at made reply
     of service h = (h, response, made, reply)
     of (rows asked) h = absurd h
 
-pub works_find : (catalog : CatalogOf) (method : Option Method) (closing : Bool) (request : RequestOf) (left : ℕ) (work : Work) (finding : Finding) (response : ResponseOf) (bytes : List ℕ)
-    → work ≡ Find finding → ((asked : RowsRequestOf) → IsFinding catalog asked finding → RespondsWithRows catalog asked response)
+pub works_find : (catalog : CatalogOf) (method : Option Method) (closing : Bool) (request : RequestOf) (left : ℕ) (work : Work) (key_lookup : KeyLookup) (response : ResponseOf) (bytes : List ℕ)
+    → work ≡ Find key_lookup → ((asked : RowsRequestOf) → IsKeyLookup catalog asked key_lookup → RespondsWithRows catalog asked response)
     → bytes ≡ reply_of method response closing → IsWork catalog request left work → WorksOn catalog method closing request left (Waits bytes)
-works_find catalog method closing request left work finding response bytes at responds reply is =
+works_find catalog method closing request left work key_lookup response bytes at responds reply is =
     of request (subst (IsWork catalog request left) at is)
   where
-    of : (q : RequestOf) → IsWork catalog q left (Find finding) → WorksOn catalog method closing q left (Waits bytes)
+    of : (q : RequestOf) → IsWork catalog q left (Find key_lookup) → WorksOn catalog method closing q left (Waits bytes)
     of (refused other) h = absurd h
     of service h = absurd h
     of (rows asked) h = (h.1, response, responds asked h.0, reply)
 
-pub works_over : (catalog : CatalogOf) (method : Option Method) (closing : Bool) (request : RequestOf) (left : ℕ) (work : Work) (reading : Reading) (reached : Reached) (response : Response)
-    (bytes : List ℕ) → work ≡ Read reading → reached ≡ Over response → ((asked : RowsRequestOf) (n : ℕ) → IsReading catalog asked n reading → ReadsOn catalog asked n reached)
+pub works_over : (catalog : CatalogOf) (method : Option Method) (closing : Bool) (request : RequestOf) (left : ℕ) (work : Work) (query_run : QueryRun) (reached : Reached) (response : Response)
+    (bytes : List ℕ) → work ≡ Read query_run → reached ≡ Over response → ((asked : RowsRequestOf) (n : ℕ) → IsQueryRun catalog asked n query_run → ReadsOn catalog asked n reached)
     → bytes ≡ reply_of method (response_view response) closing → IsWork catalog request left work → WorksOn catalog method closing request left (Waits bytes)
-works_over catalog method closing request left work reading reached response bytes at over reads reply is =
+works_over catalog method closing request left work query_run reached response bytes at over reads reply is =
     of request (subst (IsWork catalog request left) at is)
   where
-    of : (q : RequestOf) → IsWork catalog q left (Read reading) → WorksOn catalog method closing q left (Waits bytes)
+    of : (q : RequestOf) → IsWork catalog q left (Read query_run) → WorksOn catalog method closing q left (Waits bytes)
     of (refused other) h = absurd h
     of service h = absurd h
     of (rows asked) h =
@@ -122,9 +122,9 @@ goes_on catalog head left old (Waits bytes) a w = (
   refl,
 )
 goes_on catalog head left old (Replied bytes) a w = absurd (no_work_replied catalog a.request (left - 1) bytes w.1)
-goes_on catalog head left old (Read reading) a w = (w.0, record { method_is = a.method_is; closes_is = a.closes_is; request = a.request; asks = a.asks; work = w.1 })
+goes_on catalog head left old (Read query_run) a w = (w.0, record { method_is = a.method_is; closes_is = a.closes_is; request = a.request; asks = a.asks; work = w.1 })
 goes_on catalog head left old (Refuse code) a w = (w.0, record { method_is = a.method_is; closes_is = a.closes_is; request = a.request; asks = a.asks; work = w.1 })
-goes_on catalog head left old (Find finding) a w = (w.0, record { method_is = a.method_is; closes_is = a.closes_is; request = a.request; asks = a.asks; work = w.1 })
+goes_on catalog head left old (Find key_lookup) a w = (w.0, record { method_is = a.method_is; closes_is = a.closes_is; request = a.request; asks = a.asks; work = w.1 })
 goes_on catalog head left old ListTables a w = (w.0, record { method_is = a.method_is; closes_is = a.closes_is; request = a.request; asks = a.asks; work = w.1 })
 goes_on catalog head left old Failed a w = (w.0, record { method_is = a.method_is; closes_is = a.closes_is; request = a.request; asks = a.asks; work = w.1 })
 
@@ -138,22 +138,22 @@ goes_to catalog head left old work given step same told a w =
 pub left_few : (catalog : CatalogOf) (request : RequestOf) (left : ℕ) (work : Work) → IsWork catalog request left work → (0 < left) × (left ≤ most_calls work)
 left_few catalog (refused code) left (Refuse other) h = let one = h.1 in (omega (arith, one), omega (arith, one))
 left_few catalog (refused code) left ListTables h = absurd h
-left_few catalog (refused code) left (Find finding) h = absurd h
-left_few catalog (refused code) left (Read reading) h = absurd h
+left_few catalog (refused code) left (Find key_lookup) h = absurd h
+left_few catalog (refused code) left (Read query_run) h = absurd h
 left_few catalog (refused code) left (Replied bytes) h = absurd h
 left_few catalog (refused code) left (Waits bytes) h = absurd h
 left_few catalog (refused code) left Failed h = absurd h
 left_few catalog service left (Refuse other) h = absurd h
 left_few catalog service left ListTables h = (omega (arith, h), omega (arith, h))
-left_few catalog service left (Find finding) h = absurd h
-left_few catalog service left (Read reading) h = absurd h
+left_few catalog service left (Find key_lookup) h = absurd h
+left_few catalog service left (Read query_run) h = absurd h
 left_few catalog service left (Replied bytes) h = absurd h
 left_few catalog service left (Waits bytes) h = absurd h
 left_few catalog service left Failed h = absurd h
 left_few catalog (rows asked) left (Refuse other) h = absurd h
 left_few catalog (rows asked) left ListTables h = absurd h
-left_few catalog (rows asked) left (Find finding) h = let one = h.1 in (omega (arith, one), omega (arith, one))
-left_few catalog (rows asked) left (Read reading) h =
+left_few catalog (rows asked) left (Find key_lookup) h = let one = h.1 in (omega (arith, one), omega (arith, one))
+left_few catalog (rows asked) left (Read query_run) h =
     let all = h.left_are in
     let on = h.stands.goes_on in (omega (arith, all, on), h.few)
 left_few catalog (rows asked) left (Replied bytes) h = absurd h

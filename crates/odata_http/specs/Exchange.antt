@@ -13,13 +13,13 @@ use Rattle.query_exec.specs.declared.run.Step.TheVariants.{More, Done}
 use Rattle.query_exec.specs.Answer.{plan_answer}
 use Rattle.query_plan.specs.Needed.{needed_blocks}
 use Rattle.query_exec.specs.Run.{StandsFor, run_length}
-use Rattle.query_rows.specs.Rows.{RowsOf}
+use Rattle.result_rows.specs.Rows.{RowsOf}
 use Rattle.http_heads.specs.Head.{HeadOf}
 use Rattle.http_heads.specs.Checks.{head_fault, closes}
 use Rattle.http_heads.specs.Method.{method_of}
 use Rattle.odata_request.specs.Request.{AsksFor, RequestOf, RowsRequestOf, refused, rows, service}
-use Rattle.odata_http.specs.declared.finding.Finding.{Finding}
-use Rattle.odata_http.specs.declared.reading.Reading.{Reading}
+use Rattle.odata_http.specs.declared.key_lookup.KeyLookup.{KeyLookup}
+use Rattle.odata_http.specs.declared.query_run.QueryRun.{QueryRun}
 use Rattle.odata_http.specs.declared.work.Work.{Work}
 use Rattle.odata_http.specs.declared.work.Work.TheVariants.{Refuse, ListTables, Find, Read, Replied, Failed}
 use Rattle.odata_http.specs.declared.exchange.Exchange.{Exchange}
@@ -57,43 +57,43 @@ abbrev pub MeansOn : TableOf → PlanOf → TypedOf → Type 0
 MeansOn table plan query = option_map (answer_of query.counting) (plan_answer plan table) ≡ query_meaning table.schema query table.rows
 
 -- a run on its table of a plan that means a query without a key, so many calls before its end, and the sizes of some first rows of its answer
-pub record IsReading (catalog : CatalogOf) (asked : RowsRequestOf) (left : ℕ) (reading : Reading) : Type 0 where
+pub record IsQueryRun (catalog : CatalogOf) (asked : RowsRequestOf) (left : ℕ) (query_run : QueryRun) : Type 0 where
   pub unkeyed : asked.query.key ≡ None
   pub table : TableOf
   pub table_is : slice_get catalog.tables asked.table ≡ Some table
-  pub number_is : reading.table ≡ asked.table
-  pub format_is : reading.format ≡ asked.format
-  pub counting_is : reading.counting ≡ asked.query.counting
+  pub number_is : query_run.table ≡ asked.table
+  pub format_is : query_run.format ≡ asked.format
+  pub counting_is : query_run.counting ≡ asked.query.counting
   pub plan : PlanOf
   pub means : MeansOn table plan asked.query
   pub handed : ℕ
-  pub stands : StandsFor reading.run.value plan table handed
+  pub stands : StandsFor query_run.run.value plan table handed
   pub left_are : left + handed ≡ run_length plan table
-  pub few : left ≤ reading.most
-  pub counted : (rows : RowsOf) → plan_answer plan table ≡ Some rows → HaveSizesIn reading.format reading.sizes rows
+  pub few : left ≤ query_run.most
+  pub counted : (rows : RowsOf) → plan_answer plan table ≡ Some rows → HaveSizesIn query_run.format query_run.sizes rows
 
 -- the key of a query that fits its table, to be found there
-pub record IsFinding (catalog : CatalogOf) (asked : RowsRequestOf) (finding : Finding) : Type 0 where
+pub record IsKeyLookup (catalog : CatalogOf) (asked : RowsRequestOf) (key_lookup : KeyLookup) : Type 0 where
   pub table : TableOf
   pub table_is : slice_get catalog.tables asked.table ≡ Some table
-  pub number_is : finding.table ≡ asked.table
-  pub format_is : finding.format ≡ asked.format
+  pub number_is : key_lookup.table ≡ asked.table
+  pub format_is : key_lookup.format ≡ asked.format
   pub typed : IsTypedFor table.schema asked.query
-  pub key_is : asked.query.key ≡ Some (values_view finding.key)
+  pub key_is : asked.query.key ≡ Some (values_view key_lookup.key)
   pub unapplied : asked.query.apply ≡ []
-  pub select_is : optional_numbers finding.select ≡ asked.query.select
+  pub select_is : optional_numbers key_lookup.select ≡ asked.query.select
 
 -- what is left to be done for a request, so many calls before its end
 abbrev pub IsWork : CatalogOf → RequestOf → ℕ → Work → Type 0
 IsWork catalog (refused code) left (Refuse other) = (other ≡ code) × (left ≡ 1)
 IsWork catalog service left ListTables = left ≡ 1
-IsWork catalog (rows asked) left (Find finding) = IsFinding catalog asked finding × (left ≡ 1)
-IsWork catalog (rows asked) left (Read reading) = IsReading catalog asked left reading
+IsWork catalog (rows asked) left (Find key_lookup) = IsKeyLookup catalog asked key_lookup × (left ≡ 1)
+IsWork catalog (rows asked) left (Read query_run) = IsQueryRun catalog asked left query_run
 IsWork catalog request left work = ⊥
 
 -- no more calls than so many are left of the work
 abbrev pub most_calls : Work → ℕ
-most_calls (Read reading) = reading.most
+most_calls (Read query_run) = query_run.most
 most_calls work = 1
 
 -- The exchange stands for a head under a catalog, so many calls before its reply.

@@ -6,8 +6,8 @@ use Rattle.cell_types.specs.Value.{CellValue}
 use Rattle.table_store.specs.Catalog.{CatalogOf}
 use Rattle.table_store.specs.Table.{TableOf}
 use Rattle.query_meaning.specs.Meaning.{MeaningOf, ResultOf, query_meaning, result, number, single, no_row}
-use Rattle.reply_codes.specs.declared.code.Code.{Code}
-use Rattle.reply_codes.specs.declared.code.Code.TheVariants.{BadRequest, MethodNotAllowed, NoSuchRow, DivisionByZero}
+use Rattle.odata_errors.specs.declared.code.Code.{Code}
+use Rattle.odata_errors.specs.declared.code.Code.TheVariants.{BadRequest, MethodNotAllowed, NoSuchRow, DivisionByZero}
 use Rattle.reply_text.specs.Body.{rows_text, service_text, error_text}
 use Rattle.reply_text.specs.Csv.{csv_text}
 use Rattle.reply_text.specs.declared.row_sizes.RowSizes.{RowSizes}
@@ -15,7 +15,7 @@ use Rattle.reply_text.specs.Json.{json_row}
 use Rattle.reply_text.specs.RowSizes.{HaveCsvSizes, HaveJsonSizes}
 use Rattle.odata_parse.specs.declared.format.Format.{Format}
 use Rattle.odata_parse.specs.declared.format.Format.TheVariants.{Json, Csv}
-use Rattle.reply_codes.specs.Code.{status_of}
+use Rattle.odata_errors.specs.Code.{status_of}
 use Rattle.odata_http.specs.declared.response.TheConstants.{OK}
 use Rattle.http_heads.specs.declared.method.Method.{Method}
 use Rattle.http_heads.specs.declared.method.Method.TheVariants.{Head}

@@ -9,20 +9,20 @@ use Rattle.query_exec.specs.declared.run.Step.{Step}
 use Rattle.query_exec.specs.declared.run.Step.TheVariants.{More, Done}
 use Rattle.query_exec.specs.Answer.{plan_answer}
 use Rattle.query_exec.specs.Run.{StandsFor}
-use Rattle.query_rows.specs.Rows.{RowsOf}
+use Rattle.result_rows.specs.Rows.{RowsOf}
 use Rattle.odata_parse.specs.declared.format.Format.{Format}
 use Rattle.reply_text.specs.declared.row_sizes.RowSizes.{RowSizes}
 use Rattle.http_heads.specs.declared.checks.HeadFault.{HeadFault}
 use Rattle.http_heads.specs.declared.method.Method.{Method}
 use Rattle.odata_request.specs.Request.{AsksFor, RequestOf, RowsRequestOf}
 use Rattle.odata_http.specs.declared.response.Response.{Response}
-use Rattle.odata_http.specs.declared.finding.Finding.{Finding}
-use Rattle.odata_http.specs.declared.reading.Reading.{Reading}
-use Rattle.odata_http.specs.declared.reading.Reached.{Reached}
-use Rattle.odata_http.specs.declared.reading.Reached.TheVariants.{On, Over}
+use Rattle.odata_http.specs.declared.key_lookup.KeyLookup.{KeyLookup}
+use Rattle.odata_http.specs.declared.query_run.QueryRun.{QueryRun}
+use Rattle.odata_http.specs.declared.query_run.Reached.{Reached}
+use Rattle.odata_http.specs.declared.query_run.Reached.TheVariants.{On, Over}
 use Rattle.odata_http.specs.declared.work.Work.{Work}
 use Rattle.odata_http.specs.declared.work.Work.TheVariants.{Find, Read, Replied, Waits}
-use Rattle.odata_http.specs.Exchange.{IsFinding, IsReading, IsWork, RequestTakes, TakesRunCalls}
+use Rattle.odata_http.specs.Exchange.{IsKeyLookup, IsQueryRun, IsWork, RequestTakes, TakesRunCalls}
 use Rattle.odata_http.specs.Reply.{HaveSizesIn, ResponseOf, RespondsWith, RespondsWithRows, reply_of}
 
 abbrev pub response_view : Response → ResponseOf
@@ -46,33 +46,33 @@ CountsOn run format old new = (plan : PlanOf) (table : TableOf) (handed : ℕ) (
     → HaveSizesIn format old rows → HaveSizesIn format new rows
 
 -- some key is to be found in these tables
-abbrev pub MayFind : CatalogOf → Finding → Type 0
-MayFind catalog finding = (asked : RowsRequestOf) × IsFinding catalog asked finding
+abbrev pub MayFind : CatalogOf → KeyLookup → Type 0
+MayFind catalog key_lookup = (asked : RowsRequestOf) × IsKeyLookup catalog asked key_lookup
 
 -- some query is under way on these tables
-abbrev pub MayRead : CatalogOf → Reading → Type 0
-MayRead catalog reading = (asked : RowsRequestOf) × (left : ℕ) × IsReading catalog asked left reading
+abbrev pub MayRead : CatalogOf → QueryRun → Type 0
+MayRead catalog query_run = (asked : RowsRequestOf) × (left : ℕ) × IsQueryRun catalog asked left query_run
 
 -- a block was read, or it was the last call, and the answer is there
 abbrev pub ReadsOn : CatalogOf → RowsRequestOf → ℕ → Reached → Type 0
-ReadsOn catalog asked left (On reading) = (1 < left) × IsReading catalog asked (left - 1) reading
+ReadsOn catalog asked left (On query_run) = (1 < left) × IsQueryRun catalog asked (left - 1) query_run
 ReadsOn catalog asked left (Over response) = (left ≡ 1) × RespondsWithRows catalog asked (response_view response)
 
 -- the status is one of HTTP
 abbrev pub IsHttpStatus : Reached → Type 0
-IsHttpStatus (On reading) = ⊤
+IsHttpStatus (On query_run) = ⊤
 IsHttpStatus (Over response) = IsStatusCode response.status
 
 -- all calls are left
-abbrev pub StartsReading : CatalogOf → RowsRequestOf → Reading → Type 0
-StartsReading catalog asked reading = (calls : ℕ) × TakesRunCalls catalog asked calls × IsReading catalog asked calls reading
+abbrev pub StartsReading : CatalogOf → RowsRequestOf → QueryRun → Type 0
+StartsReading catalog asked query_run = (calls : ℕ) × TakesRunCalls catalog asked calls × IsQueryRun catalog asked calls query_run
 
 abbrev pub StartsWork : CatalogOf → RequestOf → Work → Type 0
 StartsWork catalog request work = (calls : ℕ) × RequestTakes catalog request calls × IsWork catalog request calls work
 
 abbrev pub MayWork : CatalogOf → Work → Type 0
-MayWork catalog (Find finding) = MayFind catalog finding
-MayWork catalog (Read reading) = MayRead catalog reading
+MayWork catalog (Find key_lookup) = MayFind catalog key_lookup
+MayWork catalog (Read query_run) = MayRead catalog query_run
 MayWork catalog work = ⊤
 
 -- the work goes on, or it was the last call, and the reply waits

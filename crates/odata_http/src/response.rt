@@ -3,7 +3,7 @@ ghost use Rattle.std.specs.Prelude.{◌≡◌, ℕ, List, IfOk, IfSome, length};
 ghost use Rattle.cell_types.specs.Value.{CellValue};
 ghost use Rattle.http.specs.StatusCode.{IsStatusCode};
 ghost use Rattle.query_plan.specs.Plan.{answer_of};
-ghost use Rattle.reply_codes.specs.Code.{status_of};
+ghost use Rattle.odata_errors.specs.Code.{status_of};
 ghost use Rattle.odata_http.specs.Reply.{body_for, error_response, meaning_response, number_response, one_row, reply_of, row_body, row_response, rows_body, service_response, HaveSizesIn};
 ghost use Rattle.odata_http.specs.Work.{response_view};
 

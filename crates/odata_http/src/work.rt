@@ -6,8 +6,8 @@ ghost use Rattle.odata_http.specs.Lazy.{IsWaiting};
 ghost use Rattle.odata_http.specs.declared.work.Work.TheVariants.{Failed};
 ghost use Rattle.odata_http.specs.Work.{IsAskedFor, MayWork, StartsWork, WorksOn, step_of};
 
-use crate::finding::Finding;
-use crate::reading::{Reached, Reading};
+use crate::key_lookup::KeyLookup;
+use crate::query_run::{Reached, QueryRun};
 use crate::response::{error_response, reply_of, service_response};
 use http_heads::Method;
 use odata_request::{Request, RowsRequest, keys_stand_alone};
@@ -24,9 +24,9 @@ pub(crate) enum Work {
     /// The tables are listed.
     ListTables,
     /// A row is asked for by its key.
-    Find(Finding),
+    Find(KeyLookup),
     /// A query is under way.
-    Read(Reading),
+    Read(QueryRun),
     /// Nothing: this is the reply, whose body is written as it is taken.
     Waits(Reply),
     /// Nothing: this is the reply, written whole.
@@ -48,7 +48,7 @@ impl Work {
         keys_stand_alone();
         let mut query = asked.query;
         match query.key.take() {
-            Some(key) => Ok(Work::Find(Finding {
+            Some(key) => Ok(Work::Find(KeyLookup {
                 table: asked.table,
                 key,
                 select: query.select,
@@ -56,7 +56,7 @@ impl Work {
             })),
             None => {
                 let asked = RowsRequest { query, ..asked };
-                Ok(Work::Read(Reading::start(alloc, catalog, asked)?))
+                Ok(Work::Read(QueryRun::start(alloc, catalog, asked)?))
             }
         }
     }
@@ -94,7 +94,7 @@ impl Work {
         ensures { result ≡ most_calls self.now }
     {
         match self {
-            Work::Read(reading) => reading.most,
+            Work::Read(query_run) => query_run.most,
             Work::Refuse(_) | Work::ListTables | Work::Find(_) => 1,
             Work::Waits(_) | Work::Replied(_) | Work::Failed => 1,
         }
@@ -127,12 +127,12 @@ impl Work {
                 let response = service_response(alloc, catalog)?;
                 Ok(Work::Waits(reply_of(alloc, method, response, closes)?))
             }
-            Work::Find(finding) => {
-                let response = finding.answer(alloc, catalog)?;
+            Work::Find(key_lookup) => {
+                let response = key_lookup.answer(alloc, catalog)?;
                 Ok(Work::Waits(reply_of(alloc, method, response, closes)?))
             }
-            Work::Read(reading) => match reading.read_on(alloc, catalog)? {
-                Reached::On(reading) => Ok(Work::Read(reading)),
+            Work::Read(query_run) => match query_run.read_on(alloc, catalog)? {
+                Reached::On(query_run) => Ok(Work::Read(query_run)),
                 Reached::Over(response) => {
                     Ok(Work::Waits(reply_of(alloc, method, response, closes)?))
                 }

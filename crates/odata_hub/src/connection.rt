@@ -1,6 +1,6 @@
 //! One connection.
 use crate::answers::{HubFault, Turned};
-use crate::flight::{Flight, Gone, Waiting, cut_into};
+use crate::flight::{InFlight, Gone, QueuedHead, cut_into};
 use http_heads::{Splitter, Unreadable};
 use odata_http::{Output, reply_to_rest};
 use std::alloc::{AllocError, Global};
@@ -12,8 +12,8 @@ use table_store::Catalog;
 #[derive(Drop)]
 pub(crate) struct Connection {
     splitter: Splitter,
-    waiting: VecDeque<Waiting>,
-    flight: Option<Flight>,
+    waiting: VecDeque<QueuedHead>,
+    flight: Option<InFlight>,
     output: Output,
     closed: bool,
     ended: bool,
@@ -23,7 +23,7 @@ pub(crate) struct Connection {
 impl Connection {
     ghost use Rattle.std.specs.Prelude.{◌≡◌, ◌≤◌, [], IfOk, None, Some, Option, OnErr, drop, length, take};
     ghost use Rattle.http_heads.specs.Hopeless.{TellsHopeless};
-    ghost use Rattle.odata_http.specs.Waiting.{IsFront};
+    ghost use Rattle.odata_http.specs.QueuedHead.{IsFront};
     ghost use Rattle.odata_hub.specs.Connections.{ConnOf, Done, End, FlightOf, Gave, IsFailed, Piece, Take, Turn, Went, call_answer, fresh, is_over};
     ghost use Rattle.odata_hub.specs.Held.{IsFlight, IsInFlight};
     ghost use Rattle.odata_hub.specs.Stands.{ConnStandsFor, IsConnStep, IsConnTook, conn_of};
@@ -45,7 +45,7 @@ impl Connection {
     }
 
     /// Another exchange is in flight, or none. Here alone the one before it is let go, since each function that may let one go is dear to prove.
-    fn set_flight(&mut self, flight: Option<Flight>)
+    fn set_flight(&mut self, flight: Option<InFlight>)
         ensures { self.new ≡ record self.old { flight = flight } }
     {
         self.flight = flight;
@@ -108,7 +108,7 @@ impl Connection {
     }
 
     /// Makes one call of the exchange that was in flight.
-    fn go_on(&mut self, alloc: Global, flight: Flight) -> Result<Turned, AllocError>
+    fn go_on(&mut self, alloc: Global, flight: InFlight) -> Result<Turned, AllocError>
         ensures ok { IfOk result (λ went. (f : FlightOf) → IsFlight flight f
             → IsWorked self.old (Some f) went self.new) }
         ensures err { OnErr result (KeepsOutput self.old self.new) }

@@ -17,12 +17,12 @@ use table_store::Catalog;
 
 /// A head that waits with its checks, and the tables that were current as its last byte came.
 #[derive(Drop)]
-pub(crate) struct Waiting {
+pub(crate) struct QueuedHead {
     head: CheckedHead,
     catalog: Rc<Catalog>,
 }
 
-impl Model for Waiting {
+impl Model for QueuedHead {
     ghost use Rattle.std.specs.Prelude.{◌≤◌, length};
     ghost use Rattle.odata_hub.specs.Streams.{Asked};
 
@@ -35,12 +35,12 @@ impl Model for Waiting {
 
 /// The exchange in flight, and the tables that were current as the last byte of its head came.
 #[derive(Drop)]
-pub(crate) struct Flight {
+pub(crate) struct InFlight {
     exchange: LazyExchange,
     catalog: Rc<Catalog>,
 }
 
-impl Model for Flight {
+impl Model for InFlight {
     ghost use Rattle.std.specs.Coded.{codes};
     ghost use Rattle.odata_http.specs.contracts.lazy.LazyExchange as exchanges;
     ghost use Rattle.odata_http.specs.Lazy.{MayGoOnLazily};
@@ -59,33 +59,33 @@ impl Model for Flight {
 #[derive(Drop)]
 pub(crate) enum Gone {
     /// Calls are left.
-    On(Flight),
+    On(InFlight),
     /// This is the reply.
     Replied(Reply),
 }
 
-impl Waiting {
+impl QueuedHead {
     /// Begins the exchange of the head. No block is read.
-    pub(crate) fn begin(self, alloc: Global) -> Result<Flight, AllocError>
+    pub(crate) fn begin(self, alloc: Global) -> Result<InFlight, AllocError>
         ensures { IfOk result (BeginsFlight self) }
     {
-        let Waiting { head, catalog } = self;
+        let QueuedHead { head, catalog } = self;
         let exchange = LazyExchange::begin_checked(alloc, &catalog, &head)?;
-        Ok(Flight { exchange, catalog })
+        Ok(InFlight { exchange, catalog })
     }
 }
 
-impl Flight {
+impl InFlight {
     /// Makes one call: a run is handed one block at most.
     pub(crate) fn go_on(self, alloc: Global) -> Result<Gone, AllocError>
         ensures { IfOk result (λ gone. (f : FlightOf) → IsFlight self f → GoesOnTo f gone) }
     {
-        let Flight {
+        let InFlight {
             mut exchange,
             catalog,
         } = self;
         match exchange.advance(alloc, &catalog)? {
-            Step::More => Ok(Gone::On(Flight { exchange, catalog })),
+            Step::More => Ok(Gone::On(InFlight { exchange, catalog })),
             Step::Done => Ok(Gone::Replied(exchange.reply())),
         }
     }
@@ -93,7 +93,7 @@ impl Flight {
 
 /// Appends the heads to those that wait, each with these tables.
 fn wait_all(
-    waiting: &mut VecDeque<Waiting>,
+    waiting: &mut VecDeque<QueuedHead>,
     catalog: &Rc<Catalog>,
     heads: Vec<CheckedHead>,
 ) -> Result<(), AllocError>
@@ -103,7 +103,7 @@ fn wait_all(
 {
     for head in heads {
         let tables = catalog.clone()?;
-        waiting.push_back(Waiting {
+        waiting.push_back(QueuedHead {
             head,
             catalog: tables,
         })?;
@@ -115,7 +115,7 @@ fn wait_all(
 pub(crate) fn cut_into(
     alloc: Global,
     splitter: &mut Splitter,
-    waiting: &mut VecDeque<Waiting>,
+    waiting: &mut VecDeque<QueuedHead>,
     catalog: &Rc<Catalog>,
     piece: &[u8],
 ) -> Result<bool, AllocError>

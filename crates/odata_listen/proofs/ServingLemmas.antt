@@ -9,7 +9,7 @@ use Rattle.odata_hub.specs.Connections.{Answer, Opened, call_answer}
 use Rattle.odata_hub.specs.Schedules.{Drop, Open}
 use Rattle.odata_hub.specs.Stands.{IsHubStep}
 use Rattle.served_folders.specs.declared.folders.FolderFault.{FolderFault}
-use Rattle.program_ends.specs.declared.fault.ProgramFault.{ProgramFault}
+use Rattle.exit_statuses.specs.declared.fault.ProgramFault.{ProgramFault}
 use Rattle.odata_rounds.specs.declared.answers.SlotState.{SlotState}
 use Rattle.odata_rounds.specs.declared.answers.SlotState.TheVariants.{Free, Rests, Worked, Answered, Lost, Failed}
 use Rattle.odata_rounds.specs.declared.slot.Slot.{Slot}

@@ -15,7 +15,7 @@ use Rattle.listen_sockets.specs.declared.peer.Peer.{Peer}
 use Rattle.listen_sockets.specs.declared.server.Server.{Server}
 use Rattle.listen_sockets.specs.declared.slow.Due.{Due}
 use Rattle.listen_sockets.specs.declared.slow.Due.TheVariants as due
-use Rattle.listen_sockets.specs.declared.slow.Limits.{Limits}
+use Rattle.listen_sockets.specs.declared.slow.TimeLimits.{TimeLimits}
 use Rattle.listen_sockets.specs.declared.sockets.Wire.{Wire}
 use Rattle.listen_sockets.specs.Peer.{after_end, fresh_peer}
 use Rattle.listen_sockets.specs.Server.{EndsHopeless, EndsIfHopeless, IsDueAt, NotesWork, has_waiting}
@@ -106,7 +106,7 @@ EndsSlow now due.Drop place old new = Frees place old new
 EndsSlow now due.TooLong place old new = Frees place old new
 
 -- what is due at a place is done there
-pub record DoesDue (limits : Limits) (moment : Moment) (place : ℕ) (old new : Server) : Type 0 where
+pub record DoesDue (limits : TimeLimits) (moment : Moment) (place : ℕ) (old new : Server) : Type 0 where
   pub due : Due
   pub is : IsDueAt limits moment.crowded moment.second place old.hub old.sockets.wires.items due
   pub ends : EndsSlow moment.second due place old new

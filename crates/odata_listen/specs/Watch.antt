@@ -6,16 +6,16 @@ use Rattle.odata_hub.specs.Connections.{Done}
 use Rattle.odata_hub.specs.Schedules.{Reload}
 use Rattle.odata_hub.specs.Stands.{IsHubStep}
 use Rattle.served_folders.specs.declared.folders.FolderFault.{FolderFault}
-use Rattle.program_ends.specs.declared.fault.ProgramFault.{ProgramFault}
-use Rattle.program_ends.specs.declared.fault.ProgramFault.TheVariants.{Folder, NoMemory}
+use Rattle.exit_statuses.specs.declared.fault.ProgramFault.{ProgramFault}
+use Rattle.exit_statuses.specs.declared.fault.ProgramFault.TheVariants.{Folder, NoMemory}
 use Rattle.served_folders.specs.Folders.{folder_cause}
-use Rattle.service_log.specs.declared.log.Loaded.{Loaded}
+use Rattle.service_log.specs.declared.log.LoadSummary.{LoadSummary}
 use Rattle.odata_listen.specs.declared.watch.TheConstants.{MOST_PAUSE}
-use Rattle.odata_listen.specs.declared.watch.Look.{Look}
-use Rattle.odata_listen.specs.declared.watch.Look.TheVariants.{Same, Moves, Changed}
+use Rattle.odata_listen.specs.declared.watch.FolderLook.{FolderLook}
+use Rattle.odata_listen.specs.declared.watch.FolderLook.TheVariants.{Same, Moves, Changed}
 
 -- what a look says of the state that it found, by the one that was taken and the one that the look before found
-abbrev pub Looks : List ℕ → List ℕ → List ℕ → Look → Type 0
+abbrev pub Looks : List ℕ → List ℕ → List ℕ → FolderLook → Type 0
 Looks taken seen found Same = found ≡ taken
 Looks taken seen found Changed = (found ≢ taken) × (found ≡ seen)
 Looks taken seen found Moves = (found ≢ taken) × (found ≢ seen)
@@ -26,7 +26,7 @@ next_pause zero = 1
 next_pause (suc n) = min (2 * suc n) MOST_PAUSE
 
 -- how many tables were loaded, and in how long; none where the folder was refused
-abbrev pub IsSize : Result CatalogOf FolderFault → ℕ → Loaded → Type 0
+abbrev pub IsSize : Result CatalogOf FolderFault → ℕ → LoadSummary → Type 0
 IsSize (Ok catalog) millis loaded = (loaded.tables ≡ length catalog.tables) × (loaded.millis ≡ millis)
 IsSize (Err fault) millis loaded = (loaded.tables ≡ 0) × (loaded.rows ≡ 0) × (loaded.millis ≡ millis)
 

@@ -1,22 +1,22 @@
-//! What the words of the command line ask for, done. Each end has the exit status that `program_ends` has for it, and each status but 0 a line on standard error.
+//! What the words of the command line ask for, done. Each end has the exit status that `exit_statuses` has for it, and each status but 0 a line on standard error.
 ghost use Rattle.std.specs.Prelude.{◌≡◌, ◌≢◌, ◌==◌, ◌-◌, ◌^◌, if◌then◌else◌};
 ghost use Rattle.std.specs.IoError.{error_kind};
-ghost use Rattle.command_words.specs.Words.{texts};
-ghost use Rattle.program_ends.specs.Status.{IsFaultStatus};
+ghost use Rattle.cli_args.specs.ListenOptions.{texts};
+ghost use Rattle.exit_statuses.specs.Status.{IsFaultStatus};
 ghost use Rattle.odata_listen.specs.Command.{IsLineStatus, IsServedStatus, IsStartStatus};
 
 use crate::drain::Drain;
 use crate::folder::Folder;
 use crate::serving::{Service, serve};
-use command_words::{WordsFault, line_of, system_words};
-use listen_sockets::{Limits, Server};
-use listen_words::{
-    Listens, MOST_PLACES, Obstacle, USAGE_LINE, Words, listens_of, read_words, unserved_line,
+use cli_args::{ArgsFault, line_of, system_words};
+use listen_sockets::{TimeLimits, Server};
+use listen_args::{
+    Listens, MOST_PLACES, Obstacle, USAGE_LINE, ListenOptions, listens_of, read_words, unserved_line,
 };
-use program_ends::{DEVICE, DONE, MEMORY, ProgramFault, USAGE, error_status, report};
+use exit_statuses::{DEVICE, DONE, MEMORY, ProgramFault, USAGE, error_status, report};
 use served_folders::FolderFault;
 use service_log::Log;
-use socket_listener::Listener;
+use socket_listener::ListeningSocket;
 use std::io::{self, ErrorKind};
 use std::net::{Net, SocketAddr};
 use std::rc::Rc;
@@ -89,18 +89,18 @@ fn unbound_status(rt: &HostRuntime, at: &Listens<'_>, error: &io::Error) -> u8
 }
 
 /// Takes a place to listen at.
-fn bind(rt: &HostRuntime, at: &Listens<'_>) -> io::Result<Listener> {
+fn bind(rt: &HostRuntime, at: &Listens<'_>) -> io::Result<ListeningSocket> {
     match at {
         Listens::Port { address, port, .. } => {
-            Listener::at_port(rt, SocketAddr::new(*address, *port))
+            ListeningSocket::at_port(rt, SocketAddr::new(*address, *port))
         }
-        Listens::Unix { path } => Listener::at_path(rt, path),
-        Listens::Stdin => Listener::of_input(rt),
+        Listens::Unix { path } => ListeningSocket::at_path(rt, path),
+        Listens::Stdin => ListeningSocket::of_input(rt),
     }
 }
 
 /// Says where it listens: the path, or the address and port that the system reports.
-fn say_listening(rt: &HostRuntime, words: &Words<'_>, listener: &Listener) -> io::Result<()> {
+fn say_listening(rt: &HostRuntime, words: &ListenOptions<'_>, listener: &ListeningSocket) -> io::Result<()> {
     if let Some(path) = words.unix {
         return rt.println(format!(in rt.alloc(); "listening {path}")?);
     }
@@ -118,15 +118,15 @@ fn most_seconds(seconds: u32) -> u32
 /// Says where it listens, and serves.
 fn listen(
     rt: &HostRuntime,
-    words: &Words<'_>,
-    listener: Listener,
+    words: &ListenOptions<'_>,
+    listener: ListeningSocket,
     folder: Folder<'_>,
     catalog: Catalog,
 ) -> io::Result<()> {
     let tables = Rc::new(rt.alloc(), catalog)?;
     let mut server = Server::new(rt.alloc(), tables, words.places)?;
     say_listening(rt, words, &listener)?;
-    let limits = Limits {
+    let limits = TimeLimits {
         head: words.head_seconds,
         idle: words.idle_seconds,
         query: words.query_seconds,
@@ -146,7 +146,7 @@ fn listen(
 /// Serves the tables of a folder at a place.
 fn tables_status(
     rt: &HostRuntime,
-    words: &Words<'_>,
+    words: &ListenOptions<'_>,
     at: &Listens<'_>,
     folder: Folder<'_>,
     catalog: Catalog,
@@ -165,7 +165,7 @@ fn tables_status(
 /// Serves what a folder came to at the start, or says why it does not: `None` is a folder that changed under each load.
 fn start_status(
     rt: &HostRuntime,
-    words: &Words<'_>,
+    words: &ListenOptions<'_>,
     at: &Listens<'_>,
     folder: Folder<'_>,
     loaded: Option<Result<Catalog, FolderFault>>,
@@ -184,7 +184,7 @@ fn start_status(
 }
 
 /// Serves a folder.
-fn serve_folder(rt: &HostRuntime, words: &Words<'_>) -> u8
+fn serve_folder(rt: &HostRuntime, words: &ListenOptions<'_>) -> u8
     ensures { IsServedStatus words.now result }
 {
     let Some(at) = listens_of(words) else {
@@ -204,12 +204,12 @@ pub fn line_status(rt: &HostRuntime, line: &[&str]) -> u8
 {
     match read_words(rt.alloc(), line) {
         Ok(words) => serve_folder(rt, &words),
-        Err(WordsFault::Shows(text)) => match text.print(rt) {
+        Err(ArgsFault::Shows(text)) => match text.print(rt) {
             Ok(()) => DONE,
             Err(error) => error_status(&error),
         },
-        Err(WordsFault::Usage) => usage_status(rt),
-        Err(WordsFault::NoMemory) => memory_status(rt),
+        Err(ArgsFault::Usage) => usage_status(rt),
+        Err(ArgsFault::NoMemory) => memory_status(rt),
     }
 }
 

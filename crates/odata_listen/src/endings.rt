@@ -4,7 +4,7 @@ ghost use Rattle.std.specs.Prelude.{◌≡◌};
 ghost use Rattle.listen_sockets.specs.Server.{state_at};
 ghost use Rattle.odata_listen.specs.Serving.{CountsSent, CountsWork, DoesDue, EndsSlow, Frees, Notes, RunsOn, Settles};
 
-use listen_sockets::{Due, Limits, Poller, Server};
+use listen_sockets::{Due, TimeLimits, Poller, Server};
 use mio::Poll;
 use odata_rounds::SlotState;
 use service_log::{CloseReason, Log};
@@ -77,7 +77,7 @@ pub struct Moment {
 }
 
 /// Does what is due at `place`.
-fn end_slow(server: &mut Server, place: u32, limits: &Limits, moment: Moment, log: &mut Log<'_>)
+fn end_slow(server: &mut Server, place: u32, limits: &TimeLimits, moment: Moment, log: &mut Log<'_>)
     ensures { DoesDue limits.now moment place server.old server.new }
 {
     let due = server.due(place, limits, moment.second, moment.crowded);
@@ -86,7 +86,7 @@ fn end_slow(server: &mut Server, place: u32, limits: &Limits, moment: Moment, lo
 
 /// Does what is due at each place.
 #[tactic(auto, using(crate::proofs::ServingLemmas::on_none))]
-pub fn end_all_slow(server: &mut Server, limits: &Limits, moment: Moment, log: &mut Log<'_>)
+pub fn end_all_slow(server: &mut Server, limits: &TimeLimits, moment: Moment, log: &mut Log<'_>)
     ensures { RunsOn server.old server.new }
 {
     for place in 0..server.places() {

@@ -1,8 +1,8 @@
 //! A folder that is watched, and reloaded when it changed. Its metadata and the files that this names are looked at, and nothing else.
-use crate::watch::{Look, hand_over, is_final, look_of, pause_after, size_of};
+use crate::watch::{FolderLook, hand_over, is_final, look_of, pause_after, size_of};
 use odata_hub::Hub;
 use served_folders::{Disk, DiskLoaded, DiskLoading, FolderFault, Folders, METADATA, look};
-use service_log::{Loaded, Log};
+use service_log::{LoadSummary, Log};
 use std::alloc::AllocError;
 use std::fs::{File, Metadata};
 use std::io::ErrorKind;
@@ -170,7 +170,7 @@ impl<'a> Folder<'a> {
         let Taken { start, catalog } = loaded;
         let size = size_of(&catalog, millis_since(rt, start));
         let after = self.state(rt);
-        if look_of(&self.seen, &self.seen, &after) == Look::Same {
+        if look_of(&self.seen, &self.seen, &after) == FolderLook::Same {
             let end = hand_over(rt.alloc(), hub, catalog);
             let holds = is_final(&end);
             if holds || !self.wants {
@@ -242,19 +242,19 @@ impl<'a> Folder<'a> {
         let says = look_of(&self.taken, &self.seen, &found);
         self.seen = found;
         match says {
-            Look::Same => {
+            FolderLook::Same => {
                 self.load = None;
                 self.wants = false;
                 self.pause = 0;
                 self.left = 0;
             }
             // what changed again may be mended
-            Look::Moves => {
+            FolderLook::Moves => {
                 self.load = None;
                 self.pause = 0;
                 self.left = 0;
             }
-            Look::Changed => self.try_again(rt, hub, log),
+            FolderLook::Changed => self.try_again(rt, hub, log),
         }
         log.each_second();
         log.flush();

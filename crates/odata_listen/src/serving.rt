@@ -7,13 +7,13 @@ use crate::endings::{Moment, end_all_slow};
 use crate::folder::Folder;
 use crate::stopwatch::Stopwatch;
 use crate::turns::{Circle, Circles, run_round};
-use listen_sockets::{Limits, Peer, Poller, Server};
-use listen_words::MOST_PLACES;
+use listen_sockets::{TimeLimits, Peer, Poller, Server};
+use listen_args::MOST_PLACES;
 use mio::Poll;
 use mio::net::TcpStream;
 use odata_hub::Conn;
 use service_log::Log;
-use socket_listener::Listener;
+use socket_listener::ListeningSocket;
 use std::io::{self, ErrorKind};
 use std::rt::{Clock, Files};
 
@@ -21,7 +21,7 @@ use std::rt::{Clock, Files};
 #[derive(Drop)]
 pub struct Service<'a> {
     pub folder: Folder<'a>,
-    pub limits: Limits,
+    pub limits: TimeLimits,
     pub log: Log<'a>,
     pub drain: Drain<'a>,
 }
@@ -186,7 +186,7 @@ fn tick(
 pub fn serve(
     rt: &HostRuntime,
     server: &mut Server,
-    listener: Listener,
+    listener: ListeningSocket,
     service: &mut Service<'_>,
     ticks: u64,
 ) -> io::Result<()>

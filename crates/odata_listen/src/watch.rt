@@ -4,9 +4,9 @@ ghost use Rattle.odata_listen.specs.Laws.{WorkedPauses};
 ghost use Rattle.odata_listen.specs.Watch.{HandsOver, IsSize, Looks, is_final, next_pause};
 
 use odata_hub::Hub;
-use program_ends::ProgramFault;
+use exit_statuses::ProgramFault;
 use served_folders::FolderFault;
-use service_log::Loaded;
+use service_log::LoadSummary;
 use std::alloc::Global;
 use std::rc::Rc;
 use table_store::{Catalog, Table};
@@ -40,16 +40,16 @@ fn rows_of(tables: &[Table]) -> u64 {
 }
 
 /// Returns how much was loaded in `millis` milliseconds: nothing if the load was refused.
-pub fn size_of(loaded: &Result<Catalog, FolderFault>, millis: u64) -> Loaded
+pub fn size_of(loaded: &Result<Catalog, FolderFault>, millis: u64) -> LoadSummary
     ensures { IsSize loaded.now millis result }
 {
     match loaded {
-        Ok(catalog) => Loaded {
+        Ok(catalog) => LoadSummary {
             tables: catalog.tables().len() as u64,
             rows: rows_of(catalog.tables()),
             millis,
         },
-        Err(_) => Loaded {
+        Err(_) => LoadSummary {
             tables: 0,
             rows: 0,
             millis,
@@ -59,7 +59,7 @@ pub fn size_of(loaded: &Result<Catalog, FolderFault>, millis: u64) -> Loaded
 
 /// What a look at a folder says.
 #[derive(Clone, Copy, PartialEq, Eq)]
-pub enum Look {
+pub enum FolderLook {
     /// It is as it was taken.
     Same,
     /// It changed since it was looked at last.
@@ -69,15 +69,15 @@ pub enum Look {
 }
 
 /// Returns what a look says that found a folder in one state, if it was taken in another, and seen in a third at the look before.
-pub fn look_of(taken: &str, seen: &str, found: &str) -> Look
+pub fn look_of(taken: &str, seen: &str, found: &str) -> FolderLook
     ensures { Looks taken.now seen.now found.now result }
 {
     if found == taken {
-        Look::Same
+        FolderLook::Same
     } else if found == seen {
-        Look::Changed
+        FolderLook::Changed
     } else {
-        Look::Moves
+        FolderLook::Moves
     }
 }
 

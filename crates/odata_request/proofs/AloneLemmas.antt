@@ -16,7 +16,7 @@ use Rattle.odata_query.specs.Apply.{apply_typing}
 use Rattle.odata_query.specs.Key.{optional_key_typing}
 use Rattle.odata_query.specs.Query.{QueryOf, TypedOf, optional_typing, order_typing, query_typing}
 use Rattle.odata_query.specs.Selection.{optional_selection_typing}
-use Rattle.reply_codes.specs.declared.code.Code.{Code}
+use Rattle.odata_errors.specs.declared.code.Code.{Code}
 use Rattle.http_heads.specs.declared.checks.HeadFault.{HeadFault}
 use Rattle.odata_request.specs.Fault.{type_code}
 use Rattle.odata_request.specs.Resource as resource

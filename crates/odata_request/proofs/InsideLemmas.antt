@@ -19,7 +19,7 @@ use Rattle.odata_query.specs.Query.{QueryOf, TypedOf, query_typing}
 use Rattle.odata_types.specs.Input.{IsQueried, IsQueriedItem, IsQueriedTransformation, IsShort}
 use Rattle.odata_types.specs.Laws.{ExpressionsAreQueried, FiltersAreQueried}
 use Rattle.query_meaning.specs.Fitting.{AreQueried, IsTypedFor}
-use Rattle.reply_codes.specs.declared.code.Code.{Code}
+use Rattle.odata_errors.specs.declared.code.Code.{Code}
 use Rattle.http_heads.specs.declared.checks.HeadFault.{HeadFault}
 use Rattle.odata_request.specs.Fault.{type_code, url_code}
 use Rattle.odata_request.specs.Reading.{ReadsApply, ReadsOption, ReadsOr, ReadsText, ReadsTokens, ReadsTree, bad_token, has_tokens, has_tree, no_tree, too_deep, too_many}

@@ -13,7 +13,7 @@ use Rattle.odata_types.specs.declared.fault.TypeFault.TheVariants as type
 use Rattle.csvw_meta.specs.Schema.{SchemaOf}
 use Rattle.odata_query.specs.Query.{QueryOf, TypedOf, query_typing}
 use Rattle.odata_types.specs.Result.{IsCause}
-use Rattle.reply_codes.specs.declared.code.Code.{Code}
+use Rattle.odata_errors.specs.declared.code.Code.{Code}
 use Rattle.odata_request.specs.Fault.{TellsCause, Yields, Refuses, fault_of, lex_code, parse_code, type_code}
 use Rattle.odata_request.specs.Options.{TextsOf}
 use Rattle.odata_request.specs.Query.{AsksQuery, ReadsQuery}

@@ -6,8 +6,8 @@ use Rattle.std.specs.Str.{bytes_eq}
 use Rattle.std.proofs.lemmas.List.Quantifiers.{position-Some}
 use Rattle.table_store.specs.Table.{TableOf}
 use Rattle.odata_url.specs.OptionName.{begins_with, dollar_sign}
-use Rattle.reply_codes.specs.declared.code.Code.{Code}
-use Rattle.reply_codes.specs.declared.code.Code.TheVariants.{NotServed}
+use Rattle.odata_errors.specs.declared.code.Code.{Code}
+use Rattle.odata_errors.specs.declared.code.Code.TheVariants.{NotServed}
 use Rattle.odata_request.specs.Resource.{ResourceOf, LeadsInside, count, has_parenthesis, in_table, is_count_path, is_parenthesis, key, key_resource, known_number, one_resource, other_resource, path_resource, rows, segment_resource, service, resource_table, table_number, without_end}
 
 number_inside : (tables : List TableOf) (name : List ℕ) (n : ℕ) → position (λ t. bytes_eq t.schema.name name) tables ≡ Some n → n < length tables

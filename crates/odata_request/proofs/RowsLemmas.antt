@@ -11,8 +11,8 @@ use Rattle.odata_url.specs.declared.fault.UrlFault.TheVariants as url
 use Rattle.odata_url.specs.Target.{QueryOption, TargetOf, target_of}
 use Rattle.odata_parse.specs.declared.format.Format.{Format}
 use Rattle.odata_query.specs.Query.{TypedOf}
-use Rattle.reply_codes.specs.declared.code.Code.{Code}
-use Rattle.reply_codes.specs.declared.code.Code.TheVariants.{NotAcceptable}
+use Rattle.odata_errors.specs.declared.code.Code.{Code}
+use Rattle.odata_errors.specs.declared.code.Code.TheVariants.{NotAcceptable}
 use Rattle.http_heads.specs.declared.checks.HeadFault.{HeadFault}
 use Rattle.odata_request.specs.declared.fault.RequestFault.{RequestFault}
 use Rattle.odata_request.specs.declared.fault.RequestFault.TheVariants.{Refused}

@@ -1,8 +1,8 @@
 -- Steps one after another: up to the first code, with one result at most.
 use Rattle.std.proofs.Common.{◌≡◌, Option, Some, None, Result, Ok, Err, IsErrAnd, ap, refl, sym, ◌∙◌, subst}
 use Rattle.std.specs.Prelude.{⊤}
-use Rattle.reply_codes.specs.declared.code.Code.{Code}
-use Rattle.reply_codes.specs.declared.code.Code.TheVariants.{BadToken}
+use Rattle.odata_errors.specs.declared.code.Code.{Code}
+use Rattle.odata_errors.specs.declared.code.Code.TheVariants.{BadToken}
 use Rattle.odata_request.specs.declared.fault.RequestFault.{RequestFault}
 use Rattle.odata_request.specs.declared.fault.RequestFault.TheVariants.{Refused, NoMemory}
 use Rattle.odata_request.specs.Fault.{IsRefusedBy, TellsCause, Refuses, Yields, fault_of}

@@ -10,7 +10,7 @@ use Rattle.odata_parse.specs.Expression.{IsFilter}
 use Rattle.odata_parse.specs.Options.{IsKey, IsOrder, IsSelection}
 use Rattle.csvw_meta.specs.Schema.{SchemaOf}
 use Rattle.odata_query.specs.Query.{query_typing}
-use Rattle.reply_codes.specs.declared.code.Code.{Code}
+use Rattle.odata_errors.specs.declared.code.Code.{Code}
 use Rattle.odata_request.specs.Fault.{type_code}
 use Rattle.odata_request.specs.Options.{TextsOf}
 use Rattle.odata_request.specs.Query.{AsksQuery, ReadsQuery}

@@ -10,7 +10,7 @@ use Rattle.std.proofs.lemmas.List.Sums.{position_or_len_is}
 use Rattle.std.proofs.Math.Seq.{drop-append-add, get_or-append_seam, take-append_seam}
 use Rattle.table_store.specs.Table.{TableOf}
 use Rattle.odata_url.specs.OptionName.{begins_with, dollar_sign}
-use Rattle.reply_codes.specs.declared.code.Code.TheVariants.{NotServed}
+use Rattle.odata_errors.specs.declared.code.Code.TheVariants.{NotServed}
 use Rattle.odata_request.specs.Path.{PathsLead, entity, entity_set, root, set_count}
 use Rattle.odata_request.specs.Resource.{count, has_parenthesis, in_table, is_count_path, is_parenthesis, key_resource, other_resource, path_resource, rows, segment_resource, service, table_number, without_end}
 use Rattle.odata_request.proofs.PathLemmas.{end_of}

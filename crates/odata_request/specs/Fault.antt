@@ -8,8 +8,8 @@ use Rattle.odata_parse.specs.declared.fault.ParseFault.{ParseFault}
 use Rattle.odata_parse.specs.declared.fault.ParseFault.TheVariants as parse
 use Rattle.odata_types.specs.declared.fault.TypeFault.{TypeFault}
 use Rattle.odata_types.specs.declared.fault.TypeFault.TheVariants as type
-use Rattle.reply_codes.specs.declared.code.Code.{Code}
-use Rattle.reply_codes.specs.declared.code.Code.TheVariants.{BadHost, BadLength, NotServed, MethodNotAllowed, BadTarget, BadEscape, BadUtf8, UnknownOption, OptionTwice, BadToken, TooMany, TooDeep, Syntax, UnknownName, Mismatch, TooLarge, AliasTaken, BadKey}
+use Rattle.odata_errors.specs.declared.code.Code.{Code}
+use Rattle.odata_errors.specs.declared.code.Code.TheVariants.{BadHost, BadLength, NotServed, MethodNotAllowed, BadTarget, BadEscape, BadUtf8, UnknownOption, OptionTwice, BadToken, TooMany, TooDeep, Syntax, UnknownName, Mismatch, TooLarge, AliasTaken, BadKey}
 use Rattle.http_heads.specs.declared.checks.HeadFault.{HeadFault}
 use Rattle.http_heads.specs.declared.checks.HeadFault.TheVariants as head
 use Rattle.odata_request.specs.declared.fault.RequestFault.{RequestFault}

@@ -10,8 +10,8 @@ use Rattle.odata_url.specs.Target.{QueryOption}
 use Rattle.odata_parse.specs.declared.format.Format.{Format}
 use Rattle.odata_parse.specs.declared.format.Format.TheVariants.{Json}
 use Rattle.odata_parse.specs.Format.{format_of}
-use Rattle.reply_codes.specs.declared.code.Code.{Code}
-use Rattle.reply_codes.specs.declared.code.Code.TheVariants.{OptionNotAllowed}
+use Rattle.odata_errors.specs.declared.code.Code.{Code}
+use Rattle.odata_errors.specs.declared.code.Code.TheVariants.{OptionNotAllowed}
 use Rattle.odata_request.specs.declared.options.Texts.{Texts}
 use Rattle.odata_request.specs.Resource as resource
 use Rattle.odata_request.specs.Resource.{ResourceOf}

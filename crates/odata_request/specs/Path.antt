@@ -2,7 +2,7 @@
 use Rattle.std.specs.Prelude.{◌≡◌, ◌<◌, ℕ, false, List, [], ◌∷◌, ◌++◌, Result, Ok, codes, length, ⊤}
 use Rattle.table_store.specs.Table.{TableOf}
 use Rattle.odata_url.specs.OptionName.{begins_with, dollar_sign}
-use Rattle.reply_codes.specs.declared.code.Code.{Code}
+use Rattle.odata_errors.specs.declared.code.Code.{Code}
 use Rattle.odata_request.specs.Resource.{ResourceOf, count, has_parenthesis, in_table, key, path_resource, rows, service, table_number}
 
 -- the root of the service; an entity set by its name, or its `$count`; or the entity of a set whose key a text is

@@ -4,7 +4,7 @@ use Rattle.csvw_meta.specs.Schema.{SchemaOf}
 use Rattle.odata_parse.specs.Expression.{IsFilter}
 use Rattle.odata_parse.specs.Options.{IsKey, IsOrder, IsSelection}
 use Rattle.odata_query.specs.Query.{QueryOf, TypedOf, query_typing}
-use Rattle.reply_codes.specs.declared.code.Code.{Code}
+use Rattle.odata_errors.specs.declared.code.Code.{Code}
 use Rattle.odata_request.specs.Fault.{TellsCause, type_code}
 use Rattle.odata_request.specs.Options.{TextsOf}
 use Rattle.odata_request.specs.Reading.{◌>>=◌, IsResult, ReadsApply, ReadsFlag, ReadsNumber, ReadsOption, ReadsOr, ReadsTree}

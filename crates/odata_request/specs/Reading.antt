@@ -10,8 +10,8 @@ use Rattle.odata_parse.specs.Apply.{IsApply}
 use Rattle.odata_parse.specs.Flag.{flag_of}
 use Rattle.odata_parse.specs.Number.{IsNumberText}
 use Rattle.odata_parse.specs.Tree.{TransformationOf}
-use Rattle.reply_codes.specs.declared.code.Code.{Code}
-use Rattle.reply_codes.specs.declared.code.Code.TheVariants.{BadToken, TooMany, TooDeep, Syntax}
+use Rattle.odata_errors.specs.declared.code.Code.{Code}
+use Rattle.odata_errors.specs.declared.code.Code.TheVariants.{BadToken, TooMany, TooDeep, Syntax}
 
 -- One step and then what follows it, which may hang on what the step gives: up to the first code.
 pub data Then {X Y : Type 0} (step : Result X Code → Type 0) (next : X → Result Y Code → Type 0) (result : Result Y Code) : Type 0 where

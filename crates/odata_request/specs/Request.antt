@@ -8,8 +8,8 @@ use Rattle.odata_parse.specs.declared.format.Format.{Format}
 use Rattle.odata_parse.specs.declared.format.Format.TheVariants.{Json, Csv}
 use Rattle.odata_query.specs.Query.{TypedOf, query_typed_view}
 use Rattle.query_meaning.specs.Fitting.{IsTypedFor}
-use Rattle.reply_codes.specs.declared.code.Code.{Code}
-use Rattle.reply_codes.specs.declared.code.Code.TheVariants.{NotAcceptable}
+use Rattle.odata_errors.specs.declared.code.Code.{Code}
+use Rattle.odata_errors.specs.declared.code.Code.TheVariants.{NotAcceptable}
 use Rattle.http_heads.specs.declared.checks.HeadFault.{HeadFault}
 use Rattle.odata_request.specs.declared.request.Request.{Request}
 use Rattle.odata_request.specs.declared.request.Request.TheVariants.{Refused, Service, Rows}

@@ -4,8 +4,8 @@ use Rattle.std.specs.List.{after_first, before_first, ends_with, list_any}
 use Rattle.std.specs.Str.{bytes_eq}
 use Rattle.table_store.specs.Table.{TableOf}
 use Rattle.odata_url.specs.OptionName.{begins_with, dollar_sign}
-use Rattle.reply_codes.specs.declared.code.Code.{Code}
-use Rattle.reply_codes.specs.declared.code.Code.TheVariants.{NotServed, NotFound, UnknownSet}
+use Rattle.odata_errors.specs.declared.code.Code.{Code}
+use Rattle.odata_errors.specs.declared.code.Code.TheVariants.{NotServed, NotFound, UnknownSet}
 use Rattle.odata_request.specs.declared.resource.Resource.{Resource}
 use Rattle.odata_request.specs.declared.resource.Resource.TheVariants.{Service, Rows, Count, Key}
 

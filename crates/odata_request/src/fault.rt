@@ -7,7 +7,7 @@ use odata_lex::LexFault;
 use odata_parse::{ParseFault, Syntax};
 use odata_types::TypeFault;
 use odata_url::UrlFault;
-use reply_codes::Code;
+use odata_errors::Code;
 
 /// Why no request is made.
 #[derive(Clone, Copy)]
@@ -146,7 +146,7 @@ impl From<TypeFault> for RequestFault {
 }
 
 impl From<Syntax> for RequestFault {
-    ghost use Rattle.reply_codes.specs.declared.code.Code.TheVariants as code;
+    ghost use Rattle.odata_errors.specs.declared.code.Code.TheVariants as code;
     ghost use Rattle.odata_request.specs.declared.fault.RequestFault.TheVariants.{Refused};
 
     ghost from_gives = { λ _ made. made ≡ Refused code.Syntax };

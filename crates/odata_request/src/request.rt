@@ -14,7 +14,7 @@ use http_heads::HeadFault;
 use odata_parse::Format;
 use odata_query::Typed;
 use odata_url::{OptionName, Target};
-use reply_codes::Code;
+use odata_errors::Code;
 use std::alloc::{AllocError, Global};
 use table_store::Catalog;
 

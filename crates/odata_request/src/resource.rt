@@ -6,7 +6,7 @@ ghost use Rattle.std.specs.Str.{bytes_eq};
 ghost use Rattle.odata_url.specs.OptionName.{begins_with, dollar_sign};
 ghost use Rattle.odata_request.specs.Resource.{LeadsInside, count, has_parenthesis, in_table, is_count_path, is_parenthesis, key_resource, one_resource, other_resource, path_resource, path_view, segment_resource, table_number, without_end};
 
-use reply_codes::Code;
+use odata_errors::Code;
 use table_store::{Catalog, Table};
 
 /// What a path leads to. A table is named by its number in the catalog, counted from 0.

@@ -5,8 +5,8 @@ use Rattle.odata_http.specs.declared.runs.RunFault.TheVariants as run
 use Rattle.odata_http.specs.Device.{SinkOf}
 use Rattle.odata_http.specs.Runs.{Course}
 use Rattle.served_folders.specs.declared.folders.FolderFault.TheVariants as folder
-use Rattle.program_ends.specs.declared.fault.ProgramFault.{ProgramFault}
-use Rattle.program_ends.specs.declared.fault.ProgramFault.TheVariants.{Folder, Run, Script, Device, NoMemory}
+use Rattle.exit_statuses.specs.declared.fault.ProgramFault.{ProgramFault}
+use Rattle.exit_statuses.specs.declared.fault.ProgramFault.TheVariants.{Folder, Run, Script, Device, NoMemory}
 use Rattle.odata_serve.specs.Check.{IsCheck}
 use Rattle.odata_serve.specs.Command.{EndsNoScript}
 use Rattle.served_folders.specs.Loads.{Loading}

@@ -3,8 +3,8 @@ use Rattle.std.proofs.Common.{◌≡◌, ℕ, List, Some, Result, Ok, Err}
 use Rattle.std.specs.Prelude.{⊤}
 use Rattle.odata_http.specs.Device.{SinkOf, SourceOf}
 use Rattle.odata_http.specs.Runs.{course}
-use Rattle.program_ends.specs.declared.fault.ProgramFault.{ProgramFault}
-use Rattle.program_ends.specs.declared.fault.ProgramFault.TheVariants.{Folder, Run, Script, Device, NoMemory}
+use Rattle.exit_statuses.specs.declared.fault.ProgramFault.{ProgramFault}
+use Rattle.exit_statuses.specs.declared.fault.ProgramFault.TheVariants.{Folder, Run, Script, Device, NoMemory}
 use Rattle.served_folders.specs.Loads.{Loading}
 use Rattle.odata_serve.specs.Program.{IsAnswer, IsQuery, request_to}
 

@@ -16,7 +16,7 @@ use Rattle.clap.specs.declared.builder.value_parser.ValueParser.{ValueParser}
 use Rattle.clap.specs.declared.builder.value_parser.ValueParser.TheVariants as parser
 use Rattle.clap.proofs.OnLiterals.{clap_on_literals}
 use Rattle.clap.proofs.ValueTestLemmas.{accepts-Accepts}
-use Rattle.command_words.specs.Words.{IsNumberOfBits}
+use Rattle.cli_args.specs.Words.{IsNumberOfBits}
 use Rattle.odata_serve.specs.Words.{SaysWords, folder_and_app, folder_app, program_app, serve_app}
 use Rattle.odata_serve.specs.declared.words.Words.{Words}
 use Rattle.odata_serve.specs.declared.words.Words.TheVariants.{Nothing, Check, Query, Answer, Replay, Serve}

@@ -6,8 +6,8 @@ use Rattle.table_store.specs.Table.{TableOf}
 use Rattle.table_store.specs.Catalog.{CatalogOf}
 use Rattle.odata_http.specs.Device.{SinkOf}
 use Rattle.odata_http.specs.Answer.{HasWritten, HasFailed}
-use Rattle.program_ends.specs.declared.fault.ProgramFault.{ProgramFault}
-use Rattle.program_ends.specs.declared.fault.ProgramFault.TheVariants.{Folder, Device, NoMemory}
+use Rattle.exit_statuses.specs.declared.fault.ProgramFault.{ProgramFault}
+use Rattle.exit_statuses.specs.declared.fault.ProgramFault.TheVariants.{Folder, Device, NoMemory}
 use Rattle.served_folders.specs.Loads.{Loading, IsFolderFault, IsLoaded}
 
 -- the line of a table: its name, its number of rows and its number of columns

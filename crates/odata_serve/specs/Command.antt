@@ -1,8 +1,8 @@
 -- The exit status of an end.
 use Rattle.std.specs.Prelude.{◌≡◌, ℕ, Result, Ok, Err, ⊤}
-use Rattle.program_ends.specs.declared.status.TheConstants.{DONE}
-use Rattle.program_ends.specs.declared.fault.ProgramFault.{ProgramFault}
-use Rattle.program_ends.specs.Status.{IsFaultStatus, IsNoScript}
+use Rattle.exit_statuses.specs.declared.status.TheConstants.{DONE}
+use Rattle.exit_statuses.specs.declared.fault.ProgramFault.{ProgramFault}
+use Rattle.exit_statuses.specs.Status.{IsFaultStatus, IsNoScript}
 
 -- the status of an end
 abbrev pub IsStatus : Result ⊤ ProgramFault → ℕ → Type 0

@@ -1,8 +1,8 @@
 -- The numbers of the program: how often a stream is read at most, how many places the hub of a script has, and the exit statuses.
 use Rattle.std.specs.Prelude.{◌≡◌}
-use Rattle.program_ends.specs.declared.status.TheConstants.{DONE}
-use Rattle.program_ends.specs.declared.text.TheConstants.{REFUSED, USAGE, DEVICE, MEMORY}
-use Rattle.program_ends.specs.declared.fault.TheConstants.{MAX_READS}
+use Rattle.exit_statuses.specs.declared.status.TheConstants.{DONE}
+use Rattle.exit_statuses.specs.declared.text.TheConstants.{REFUSED, USAGE, DEVICE, MEMORY}
+use Rattle.exit_statuses.specs.declared.fault.TheConstants.{MAX_READS}
 use Rattle.hub_scripts.specs.declared.replay.TheConstants.{PLACES}
 
 pub record ServeSizes : Type 0 where

@@ -5,9 +5,9 @@ use Rattle.odata_http.specs.declared.runs.RunFault.TheVariants as run
 use Rattle.odata_http.specs.Device.{Counts}
 use Rattle.http_heads.specs.Head.{HeadOf}
 use Rattle.odata_http.specs.Runs.{Course, IsRun}
-use Rattle.program_ends.specs.declared.fault.TheConstants.{MAX_READS}
-use Rattle.program_ends.specs.declared.fault.ProgramFault.{ProgramFault}
-use Rattle.program_ends.specs.declared.fault.ProgramFault.TheVariants.{Device, NoMemory}
+use Rattle.exit_statuses.specs.declared.fault.TheConstants.{MAX_READS}
+use Rattle.exit_statuses.specs.declared.fault.ProgramFault.{ProgramFault}
+use Rattle.exit_statuses.specs.declared.fault.ProgramFault.TheVariants.{Device, NoMemory}
 
 -- a listener: the port that it told last, if it did; how many connections were answered to their ends, and how many calls failed
 pub record ListenerOf : Type 0 where

@@ -5,9 +5,9 @@ use Rattle.odata_http.specs.declared.runs.RunFault.{RunFault}
 use Rattle.odata_http.specs.Device.{SinkOf, SourceOf}
 use Rattle.odata_http.specs.Reply.{field_line, line_end, IsReply}
 use Rattle.odata_http.specs.Runs.{Course, IsRun, course}
-use Rattle.program_ends.specs.declared.fault.TheConstants.{MAX_READS}
-use Rattle.program_ends.specs.declared.fault.ProgramFault.{ProgramFault}
-use Rattle.program_ends.specs.declared.fault.ProgramFault.TheVariants.{Folder, NoMemory, Run}
+use Rattle.exit_statuses.specs.declared.fault.TheConstants.{MAX_READS}
+use Rattle.exit_statuses.specs.declared.fault.ProgramFault.{ProgramFault}
+use Rattle.exit_statuses.specs.declared.fault.ProgramFault.TheVariants.{Folder, NoMemory, Run}
 use Rattle.served_folders.specs.Loads.{Loading, IsFolderFault, IsLoaded}
 
 -- a run over the tables that the folder means ended so

@@ -3,8 +3,8 @@ use Rattle.std.specs.Prelude.{◌≡◌, ◌⊎◌, ◌<◌, ◌+◌, ◌^◌, �
 use Rattle.std.specs.Fmt.{decimal}
 use Rattle.odata_http.specs.Device.{SinkOf, Counts}
 use Rattle.odata_http.specs.Answer.{HasWritten, HasFailed}
-use Rattle.program_ends.specs.declared.fault.ProgramFault.{ProgramFault}
-use Rattle.program_ends.specs.declared.fault.ProgramFault.TheVariants.{Device, NoMemory}
+use Rattle.exit_statuses.specs.declared.fault.ProgramFault.{ProgramFault}
+use Rattle.exit_statuses.specs.declared.fault.ProgramFault.TheVariants.{Device, NoMemory}
 use Rattle.odata_serve.specs.Listener.{ListenerOf}
 
 -- a listener and a sink, before and after a call

@@ -3,7 +3,7 @@ use Rattle.std.specs.Prelude.{◌≡◌, List, Option, Some, None, [], codes, po
 use Rattle.std.specs.Borrow.{Bor}
 use Rattle.clap.specs.Words.{App, Row, Rule, Text, fault_of, first_of, new_app, one_of, subcommand_of, with_rule, with_subcommand}
 use Rattle.clap.specs.declared.builder.ValueParser.TheVariants as parser
-use Rattle.command_words.specs.Words.{IsNumberOfBits, port_rule, required_rule}
+use Rattle.cli_args.specs.Words.{IsNumberOfBits, port_rule, required_rule}
 use Rattle.odata_serve.specs.declared.words.Words.{Words}
 use Rattle.odata_serve.specs.declared.words.Words.TheVariants.{Nothing, Check, Query, Answer, Replay, Serve}
 

@@ -4,7 +4,7 @@ ghost use Rattle.odata_serve.specs.Check.{AreListed, IsCheck, table_line};
 ghost use Rattle.served_folders.specs.Loads.{loading};
 
 use odata_http::{Sink, send};
-use program_ends::ProgramFault;
+use exit_statuses::ProgramFault;
 use served_folders::Folders;
 use std::alloc::{AllocError, Global};
 use table_store::Table;

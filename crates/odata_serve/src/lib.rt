@@ -14,7 +14,7 @@ pub use command::{command_status, line_status, unread_status, usage_status};
 pub use hub_scripts::{plays_schedule, replay_script};
 pub use listener::{CountedListener, Listener};
 pub use program::{answer, query, request_to, sizes};
-pub use program_ends::{
+pub use exit_statuses::{
     DEVICE, DONE, MEMORY, ProgramFault, REFUSED, USAGE, error_status, fault_line, report,
 };
 pub use served_folders::{BuiltIn, Disk, FolderFault, Folders, NOTES};

@@ -7,7 +7,7 @@ ghost use Rattle.odata_serve.specs.Program.{IsAnswer, IsQuery, request_to};
 ghost use Rattle.served_folders.specs.Loads.{loading};
 
 use odata_http::{Counted, Sink, Source, run};
-use program_ends::{MAX_READS, ProgramFault};
+use exit_statuses::{MAX_READS, ProgramFault};
 use served_folders::Folders;
 use std::alloc::{AllocError, Global};
 

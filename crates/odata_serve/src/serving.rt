@@ -4,7 +4,7 @@ ghost use Rattle.odata_serve.specs.Serving.{AnswersInTurn, IsServed, IsTold, ser
 
 use crate::listener::Listener;
 use odata_http::{Sink, send};
-use program_ends::ProgramFault;
+use exit_statuses::ProgramFault;
 use std::alloc::Global;
 use table_store::Catalog;
 

@@ -4,11 +4,11 @@ ghost use Rattle.std.specs.Prelude.{◌≡◌, IfOk, IfErr, IfNone, IfSome, fals
 ghost use Rattle.clap.specs.Words.{app_of, found_of, rows_of, rule_of, subcommand_rows_of, with_subcommand};
 ghost use Rattle.clap.specs.declared.Command.TheViews.{out-Command};
 ghost use Rattle.odata_serve.specs.Words.{AreWords, IsTaken, SaysWords, SaysNothing, connections_rule, folder_app, folder_and_app, program_app, serve_app};
-ghost use Rattle.command_words.specs.Words.{texts};
+ghost use Rattle.cli_args.specs.Words.{texts};
 
 use clap::error::ErrorKind;
 use clap::{Arg, ArgMatches, Command, value_parser};
-use command_words::{number, port, port_option, required, text};
+use cli_args::{number, port, port_option, required, text};
 use std::alloc::{AllocError, Global};
 
 /// What the program is asked to do.

@@ -16,9 +16,9 @@ use Rattle.query_plan.specs.Plan.{node_names, node_result, nodes_result}
 use Rattle.table_store.specs.Table.{TableOf}
 use Rattle.row_columns.specs.Picked.{numbered}
 use Rattle.row_selection.specs.Numbers.{numbers_from}
-use Rattle.row_groups.specs.declared.gathering.Gathering.{Gathering}
-use Rattle.row_groups.specs.Gathered.{gathered_rows, gathered_width, lent_places, Adjoins, Gathers, HasGatheredRows, MayJoin}
-use Rattle.row_groups.specs.Tallies.{FitsAll}
+use Rattle.aggregate_rows.specs.declared.aggregator.Aggregator.{Aggregator}
+use Rattle.aggregate_rows.specs.Gathered.{gathered_rows, gathered_width, lent_places, Adjoins, Gathers, HasGatheredRows, MayJoin}
+use Rattle.aggregate_rows.specs.Tallies.{FitsAll}
 use Rattle.block_filter.specs.declared.block.Passed.{Passed}
 use Rattle.query_exec.specs.declared.aggregate.AggregateSink.{AggregateSink}
 use Rattle.query_exec.specs.declared.intermediate.Intermediate.{Intermediate}
@@ -89,7 +89,7 @@ module _ (r : ResultOf) (width : ℕ) (long : length r.names ≡ width) where
 -- ---- rows that are gathered
 
 -- rows may join those that were, where it fits all of them
-pub may_join : (places : Option (List ℕ)) (aggregates : List NamedAggregateOf) (g : Gathering) (before more : List (List CellValue)) (names : List (List ℕ)) (width : ℕ)
+pub may_join : (places : Option (List ℕ)) (aggregates : List NamedAggregateOf) (g : Aggregator) (before more : List (List CellValue)) (names : List (List ℕ)) (width : ℕ)
     → Gathers g places aggregates before → length names ≡ width → length (before ++ more) < 2 ^ 64
     → IsFitNode (aggregate_node places aggregates) (without_count names (before ++ more)) → MayJoin g width more
 may_join places aggregates g before more names width gathers long few fit = record {
@@ -119,7 +119,7 @@ none_pushed s rows found none = record {
 -- the rows of a block join them, and none is kept
 pub aggregate_pushed : (old new : AggregateSink) (rows more : List (List CellValue)) (found : Passed) → new.places ≡ old.places → new.aggregates ≡ old.aggregates
     → HasSameColumns old.kept new.kept → new.kept.columns.rows ≡ []
-    → more ≡ selected_rows (kept_places old.kept) (numbered found.rows rows) → Adjoins old.gathering new.gathering more → PushesOn (sink.Aggregate old) (sink.Aggregate new) rows found
+    → more ≡ selected_rows (kept_places old.kept) (numbered found.rows rows) → Adjoins old.aggregator new.aggregator more → PushesOn (sink.Aggregate old) (sink.Aggregate new) rows found
 aggregate_pushed old new rows more found places aggregates columns none more_is joins =
     let node_is : aggregate_node (optional_numbers new.places) (aggregates_view new.aggregates) ≡ aggregate_node (optional_numbers old.places) (aggregates_view old.aggregates) =
     ap (λ (ps : _). aggregate_node (optional_numbers ps) (aggregates_view new.aggregates)) places ∙ ap (λ (as_many : _). aggregate_node (optional_numbers old.places) (aggregates_view as_many)) aggregates in
@@ -130,9 +130,9 @@ aggregate_pushed old new rows more found places aggregates columns none more_is 
           let all : before ++ more ≡ before ++ selected_rows (kept_places old.kept) passing = ap (λ rs. before ++ rs) (more_is ∙ ap (selected_rows (kept_places old.kept)) are.first) in
           record {
             gathers =
-                subst (λ (ps : _). Gathers new.gathering (optional_numbers ps) (aggregates_view new.aggregates) (before ++ selected_rows (kept_places old.kept) passing)) (sym places)
-                (subst (λ (as_many : _). Gathers new.gathering (optional_numbers old.places) (aggregates_view as_many) (before ++ selected_rows (kept_places old.kept) passing)) (sym aggregates)
-                (subst (Gathers new.gathering (optional_numbers old.places) (aggregates_view old.aggregates)) all
+                subst (λ (ps : _). Gathers new.aggregator (optional_numbers ps) (aggregates_view new.aggregates) (before ++ selected_rows (kept_places old.kept) passing)) (sym places)
+                (subst (λ (as_many : _). Gathers new.aggregator (optional_numbers old.places) (aggregates_view as_many) (before ++ selected_rows (kept_places old.kept) passing)) (sym aggregates)
+                (subst (Gathers new.aggregator (optional_numbers old.places) (aggregates_view old.aggregates)) all
                 (joins (optional_numbers old.places) (aggregates_view old.aggregates) before has.gathers)));
             none = none;
           };
@@ -167,17 +167,17 @@ module _ (old : AggregateSink) (kept : Kept) (block : TableOf) (found : Passed) 
       ∙ selected_numbered (kept_places old.kept) block.rows found.rows
       (recursion_from_All (λ n. n < length block.rows) found.rows may.are_found.within)
 
-  pub block_may_join : MayJoin old.gathering (length kept.columns.kinds) (numbered found.rows kept.columns.rows)
+  pub block_may_join : MayJoin old.aggregator (length kept.columns.kinds) (numbered found.rows kept.columns.rows)
   block_may_join =
       let more = selected_rows (kept_places old.kept) may.passing in
       let rows_are : numbered found.rows kept.columns.rows ≡ more = block_rows ∙ ap (selected_rows (kept_places old.kept)) may.are_found.first in
-      subst (MayJoin old.gathering (length kept.columns.kinds)) (sym rows_are)
-      (may_join (optional_numbers old.places) (aggregates_view old.aggregates) old.gathering may.before more (kept_names old.kept) (length kept.columns.kinds) may.pushed.gathers
+      subst (MayJoin old.aggregator (length kept.columns.kinds)) (sym rows_are)
+      (may_join (optional_numbers old.places) (aggregates_view old.aggregates) old.aggregator may.before more (kept_names old.kept) (length kept.columns.kinds) may.pushed.gathers
       (sym (as_many old.kept block.schema may.columns) ∙ sym (ap length has.same.kinds)) may.few may.fits.0)
 
 -- what is gathered of all rows that joined, under its names
 pub gathered_finishes : (s : AggregateSink) (names : List (List ℕ)) (rows : List (List CellValue)) (made : Intermediate)
-    → names ≡ node_names (aggregate_node (optional_numbers s.places) (aggregates_view s.aggregates)) (kept_names s.kept) → HasGatheredRows s.gathering rows
+    → names ≡ node_names (aggregate_node (optional_numbers s.places) (aggregates_view s.aggregates)) (kept_names s.kept) → HasGatheredRows s.aggregator rows
     → intermediate_view made ≡ without_count names rows → IsIntermediate made → SinkMakes (sink.Aggregate s) made
 gathered_finishes s names rows made names_are gathered view is = record {
   makes = λ all has.

@@ -16,8 +16,8 @@ use Rattle.row_eval.specs.Logic.{truth_of}
 use Rattle.query_meaning.specs.Filter.{is_true, passes}
 use Rattle.query_meaning.specs.Order.{Item}
 use Rattle.row_columns.specs.Picked.{numbered, values_at}
-use Rattle.row_order.specs.Best.{best_rows}
-use Rattle.row_order.specs.Cutoffs.{first_value, is_near, may_precede, ComesLate, IsTest, NeverFault, RowsAreCutOff}
+use Rattle.sort_rows.specs.Best.{best_rows}
+use Rattle.sort_rows.specs.Cutoffs.{first_value, is_near, may_precede, ComesLate, IsTest, NeverFault, RowsAreCutOff}
 use Rattle.query_exec.specs.declared.kept.Kept.{Kept}
 use Rattle.query_exec.specs.declared.top_n.TopNSink.{TopNSink}
 use Rattle.query_exec.specs.Cutoffs.{selected_row, CutsOff, HasCutoff, IsFirstColumn, IsSourceOf}

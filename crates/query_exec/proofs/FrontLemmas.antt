@@ -7,7 +7,7 @@ use Rattle.table_store.specs.Table.{TableOf}
 use Rattle.block_filter.specs.Conditions.{rows_joined, ConditionsInTurn}
 use Rattle.query_plan.specs.Plan.{PlanOf, needed, node_view, nodes_result}
 use Rattle.query_plan.specs.Scan.{rows_of_blocks}
-use Rattle.query_rows.specs.Rows.{BeginWith, RowsOf}
+use Rattle.result_rows.specs.Rows.{BeginWith, RowsOf}
 use Rattle.query_exec.specs.declared.front.FirstRows.{FirstRows}
 use Rattle.query_exec.specs.declared.kept.Kept.{Kept}
 use Rattle.query_exec.specs.declared.run.Run.{Run}

@@ -17,7 +17,7 @@ use Rattle.query_meaning.specs.Meaning.{first_rows}
 use Rattle.query_plan.specs.Fitting.{NodesFit}
 use Rattle.query_plan.specs.Laws.{NodesInTurn, ScansReadTableRows}
 use Rattle.query_plan.specs.Plan.{PlanOf, needed, node_view, nodes_result}
-use Rattle.query_rows.specs.Rows.{RowsOf}
+use Rattle.result_rows.specs.Rows.{RowsOf}
 use Rattle.query_exec.specs.declared.fault.ExecFault.{ExecFault}
 use Rattle.query_exec.specs.declared.fault.ExecFault.TheVariants.{DivisionByZero, NoMemory, Failed}
 use Rattle.query_exec.specs.declared.intermediate.Intermediate.{Intermediate}

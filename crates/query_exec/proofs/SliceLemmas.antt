@@ -8,7 +8,7 @@ use Rattle.block_filter.specs.declared.block.Passed.{Passed}
 use Rattle.query_meaning.specs.Meaning.{first_rows}
 use Rattle.query_plan.specs.Plan.{nodes_result, slice_view, slicing}
 use Rattle.query_plan.specs.Push.{room_of}
-use Rattle.query_rows.specs.Rows.{RowsOf}
+use Rattle.result_rows.specs.Rows.{RowsOf}
 use Rattle.query_exec.specs.declared.intermediate.Intermediate.{Intermediate}
 use Rattle.query_exec.specs.declared.sink.Sink.TheVariants as sink
 use Rattle.query_exec.specs.declared.slice.SliceSink.{SliceSink}

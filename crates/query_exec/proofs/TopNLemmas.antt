@@ -20,8 +20,8 @@ use Rattle.odata_query.specs.Query.{order_view}
 use Rattle.query_meaning.specs.Order.{Item, are_plain, order_faults, plain_column, rows_cmp, sorted}
 use Rattle.query_plan.specs.Plan.{choosing, nodes_result}
 use Rattle.row_columns.specs.Picked.{numbered}
-use Rattle.row_order.specs.Best.{best_rows, BestInPieces}
-use Rattle.row_order.specs.Cutoffs.{NeverFault}
+use Rattle.sort_rows.specs.Best.{best_rows, BestInPieces}
+use Rattle.sort_rows.specs.Cutoffs.{NeverFault}
 use Rattle.query_exec.specs.declared.intermediate.Intermediate.{Intermediate}
 use Rattle.query_exec.specs.declared.sink.Sink.TheVariants as sink
 use Rattle.query_exec.specs.declared.top_n.TopNSink.{TopNSink}

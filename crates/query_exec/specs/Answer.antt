@@ -2,7 +2,7 @@
 use Rattle.std.specs.Prelude.{Option}
 use Rattle.table_store.specs.Table.{TableOf}
 use Rattle.query_plan.specs.Plan.{PlanOf, plan_result}
-use Rattle.query_rows.specs.Rows.{RowsOf}
+use Rattle.result_rows.specs.Rows.{RowsOf}
 
 -- None is a division by zero
 abbrev pub plan_answer : PlanOf → TableOf → Option RowsOf

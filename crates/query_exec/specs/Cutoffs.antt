@@ -7,7 +7,7 @@ use Rattle.row_eval.specs.Bounds.{TruthFits}
 use Rattle.query_meaning.specs.Filter.{passes}
 use Rattle.query_meaning.specs.Order.{Item}
 use Rattle.row_columns.specs.Picked.{values_at}
-use Rattle.row_order.specs.Cutoffs.{first_place, ComesLate}
+use Rattle.sort_rows.specs.Cutoffs.{first_place, ComesLate}
 use Rattle.query_exec.specs.declared.kept.Kept.{Kept}
 use Rattle.query_exec.specs.declared.top_n.TopNSink.{TopNSink}
 use Rattle.query_exec.specs.Kept.{kept_places}

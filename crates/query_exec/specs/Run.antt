@@ -18,7 +18,7 @@ use Rattle.query_exec.specs.declared.run.Run.{Run}
 use Rattle.query_exec.specs.declared.run.Stage.TheVariants.{Reading, Ended, Refused}
 use Rattle.query_exec.specs.declared.run.Step.{Step}
 use Rattle.query_exec.specs.declared.run.Step.TheVariants.{More, Done}
-use Rattle.query_rows.specs.Rows.{BeginWith, RowsOf}
+use Rattle.result_rows.specs.Rows.{BeginWith, RowsOf}
 use Rattle.query_exec.specs.Answer.{plan_answer}
 use Rattle.query_exec.specs.Conditions.{condition_nodes}
 use Rattle.query_exec.specs.Intermediate.{without_count}

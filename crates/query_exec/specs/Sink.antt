@@ -7,15 +7,15 @@ use Rattle.odata_query.specs.Aggregate.{aggregates_view}
 use Rattle.odata_query.specs.Query.{optional_numbers, order_view}
 use Rattle.table_store.specs.Table.{TableOf}
 use Rattle.row_columns.specs.Picked.{numbered}
-use Rattle.row_order.specs.Best.{best_rows}
-use Rattle.row_groups.specs.Gathered.{Gathers}
+use Rattle.sort_rows.specs.Best.{best_rows}
+use Rattle.aggregate_rows.specs.Gathered.{Gathers}
 use Rattle.block_filter.specs.declared.block.Passed.{Passed}
 use Rattle.query_meaning.specs.Meaning.{first_rows}
 use Rattle.query_meaning.specs.Order.{Item}
 use Rattle.query_plan.specs.Fitting.{NodesFit}
 use Rattle.query_plan.specs.Plan.{NodeOf, choosing, nodes_result, slice_view, slicing}
 use Rattle.query_plan.specs.Push.{room_of}
-use Rattle.query_rows.specs.Rows.{RowsOf}
+use Rattle.result_rows.specs.Rows.{RowsOf}
 use Rattle.query_exec.specs.declared.aggregate.AggregateSink.{AggregateSink}
 use Rattle.query_exec.specs.declared.front.FirstRows.{FirstRows}
 use Rattle.query_exec.specs.declared.intermediate.Intermediate.{Intermediate}
@@ -62,7 +62,7 @@ pub record HasBest (sink : TopNSink) (rows : List (List CellValue)) : Type 0 whe
 
 -- for aggregates none is kept
 pub record HasGathered (sink : AggregateSink) (rows : List (List CellValue)) : Type 0 where
-  pub gathers : Gathers sink.gathering (optional_numbers sink.places) (aggregates_view sink.aggregates) rows
+  pub gathers : Gathers sink.aggregator (optional_numbers sink.places) (aggregates_view sink.aggregates) rows
   pub none : sink.kept.columns.rows ≡ []
 
 abbrev pub HasPushed : Sink → List (List CellValue) → Type 0

@@ -10,7 +10,7 @@ use crate::kept::Kept;
 use crate::names::aggregate_names;
 use block_filter::Passed;
 use odata_query::NamedAggregate;
-use row_groups::Gathering;
+use aggregate_rows::Aggregator;
 use row_selection::Selection;
 use std::alloc::{AllocError, Global};
 use table_store::Block;
@@ -22,7 +22,7 @@ pub(crate) struct AggregateSink {
     pub(crate) kept: Kept,
     pub(crate) places: Option<Vec<usize>>,
     pub(crate) aggregates: Vec<NamedAggregate>,
-    pub(crate) gathering: Gathering,
+    pub(crate) aggregator: Aggregator,
 }
 
 impl AggregateSink {
@@ -39,12 +39,12 @@ impl AggregateSink {
         ensures aggregates { IfOk result (λ made. made.aggregates ≡ aggregates) }
         ensures none { IfOk result (λ made. HasPushed (sink.Aggregate made) []) }
     {
-        let gathering = Gathering::new(alloc, places.as_deref(), aggregates.as_slice())?;
+        let aggregator = Aggregator::new(alloc, places.as_deref(), aggregates.as_slice())?;
         Ok(AggregateSink {
             kept,
             places,
             aggregates,
-            gathering,
+            aggregator,
         })
     }
 
@@ -63,7 +63,7 @@ impl AggregateSink {
             return Ok(());
         }
         self.kept.take(alloc, block, Selection::all(block.rows()))?;
-        self.gathering.join(alloc, &self.kept.columns, &found.rows)?;
+        self.aggregator.join(alloc, &self.kept.columns, &found.rows)?;
         self.kept.columns.clear();
         Ok(())
     }
@@ -77,7 +77,7 @@ impl AggregateSink {
             kept,
             places,
             aggregates,
-            gathering,
+            aggregator,
         } = self;
         let names = aggregate_names(
             alloc,
@@ -85,7 +85,7 @@ impl AggregateSink {
             places.as_deref(),
             aggregates.as_slice(),
         )?;
-        let columns = gathering.finish(alloc)?;
+        let columns = aggregator.finish(alloc)?;
         Intermediate::whole(alloc, names, columns, None)
     }
 }

@@ -2,7 +2,7 @@
 ghost use Rattle.std.specs.Prelude.{◌≡◌, IfOk, IsTrue, length, map, string_bytes};
 ghost use Rattle.query_exec.specs.Intermediate.{intermediate_view, AreAllNumbers, IsIntermediate};
 
-use query_rows::Rows;
+use result_rows::Rows;
 use row_columns::Columns;
 use std::alloc::{AllocError, Global};
 

@@ -11,7 +11,7 @@ ghost use Rattle.query_exec.specs.Picked.{selected_rows};
 use crate::front::FirstRows;
 use crate::intermediate::Intermediate;
 use csvw_meta::Schema;
-use query_rows::{Rows, names_of, picked_names};
+use result_rows::{Rows, names_of, picked_names};
 use row_columns::Columns;
 use row_selection::Selection;
 use std::alloc::{AllocError, Global};

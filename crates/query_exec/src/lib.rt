@@ -19,5 +19,5 @@ mod top_n;
 
 pub use fault::ExecFault;
 pub use front::FirstRows;
-pub use query_rows::Rows;
+pub use result_rows::Rows;
 pub use run::{Run, Step};

@@ -3,11 +3,11 @@ ghost use Rattle.std.specs.Prelude.{◌≡◌, ◌<◌, IfOk, IfSome, ◌++◌, 
 ghost use Rattle.std.specs.List.{All};
 ghost use Rattle.odata_query.specs.Aggregate.{named_view};
 ghost use Rattle.query_plan.specs.Plan.{node_names};
-ghost use Rattle.row_groups.specs.Gathered.{lent_places};
+ghost use Rattle.aggregate_rows.specs.Gathered.{lent_places};
 ghost use Rattle.query_exec.specs.Intermediate.{aggregate_node};
 
 use odata_query::NamedAggregate;
-use query_rows::picked_names;
+use result_rows::picked_names;
 use std::alloc::{AllocError, Global};
 
 /// Names, and after them the aliases of aggregates.

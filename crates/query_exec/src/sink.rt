@@ -11,7 +11,7 @@ use crate::slice::SliceSink;
 use crate::top_n::{TopNSink, none_can_fault};
 use block_filter::Passed;
 use query_plan::Node;
-use query_rows::Rows;
+use result_rows::Rows;
 use std::alloc::{AllocError, Global};
 use table_store::Block;
 

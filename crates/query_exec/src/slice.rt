@@ -7,7 +7,7 @@ use crate::intermediate::Intermediate;
 use crate::kept::Kept;
 use block_filter::Passed;
 use query_plan::Slice;
-use query_rows::Rows;
+use result_rows::Rows;
 use std::alloc::{AllocError, Global};
 use table_store::Block;
 

@@ -6,17 +6,17 @@ ghost use Rattle.odata_query.specs.Query.{order_view};
 ghost use Rattle.query_plan.specs.Fitting.{IsFitNode, NodesFit};
 ghost use Rattle.query_plan.specs.Plan.{node_result, node_view, nodes_result, projecting, sorting};
 ghost use Rattle.query_plan.specs.Rewrite.{chosen};
-ghost use Rattle.row_groups.specs.Gathered.{lent_places};
+ghost use Rattle.aggregate_rows.specs.Gathered.{lent_places};
 ghost use Rattle.query_exec.specs.Intermediate.{aggregate_node, intermediate_view, GivesIntermediate, IsIntermediate, Makes};
 
 use crate::intermediate::Intermediate;
 use crate::names::aggregate_names;
 use odata_query::{NamedAggregate, OrderBy};
 use query_plan::Node;
-use query_rows::picked_names;
+use result_rows::picked_names;
 use row_eval::EvalFault;
-use row_groups::gathered;
-use row_order::{best_numbers, passing_numbers, piece, sorted_numbers};
+use aggregate_rows::gathered;
+use sort_rows::{best_numbers, passing_numbers, piece, sorted_numbers};
 use std::alloc::{AllocError, Global};
 use std::mem;
 

@@ -14,7 +14,7 @@ use crate::kept::Kept;
 use block_filter::{Passed, Rank, guessed_value, passing_numbers};
 use odata_query::OrderBy;
 use row_eval::{EvalFault, faults_are_foreseen};
-use row_order::{best_in_pieces, best_numbers, cutoff, first_place, nearness, rows_are_cut_off};
+use sort_rows::{best_in_pieces, best_numbers, cutoff, first_place, nearness, rows_are_cut_off};
 use row_selection::Selection;
 use std::alloc::{AllocError, Global};
 use table_store::Block;

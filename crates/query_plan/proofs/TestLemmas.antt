@@ -32,8 +32,8 @@ use Rattle.row_eval.specs.Logic.{option_of_truth, truth_of, truth_of_option}
 use Rattle.row_eval.specs.Outcome.{both, number_outcome, or_null, text_outcome, truth_outcome}
 use Rattle.row_eval.specs.Row.{boolean_in, cell, number_in, text_in}
 use Rattle.query_meaning.specs.Filter.{is_true, passes}
-use Rattle.summary_eval.specs.Known.{comparison_of, is_of_kind}
-use Rattle.summary_eval.specs.Numbers.{kind_of, number_cell, NumbersAreTested}
+use Rattle.zone_maps.specs.Known.{comparison_of, is_of_kind}
+use Rattle.zone_maps.specs.Numbers.{kind_of, number_cell, NumbersAreTested}
 use Rattle.query_plan.specs.Scan.{TestOf, passes_test}
 use Rattle.query_plan.specs.Tests.{compared_with, literal_number, number_value, scaled_number, test_of, text_value, truth_value}
 use Rattle.query_plan.specs.Types.{IsTruthOver, column_kind, number_type}

@@ -7,8 +7,8 @@ use Rattle.typed_trees.specs.declared.tree.NumberKind.{NumberKind}
 use Rattle.typed_trees.specs.declared.tree.TheConstants.{MILLIONTHS}
 use Rattle.odata_types.specs.declared.types.TheConstants.{MOST_SIZE}
 use Rattle.typed_trees.specs.TypedTree.{NumberExprOf, TextExprOf, TruthExprOf, compare_numbers, compare_texts, compare_truths, negated, null_number, null_text, null_truth, number_column, number_literal, scaled, text_column, text_literal, truth_column, truth_literal}
-use Rattle.summary_eval.specs.Known.{comparison_of}
-use Rattle.summary_eval.specs.Numbers.{number_cell}
+use Rattle.zone_maps.specs.Known.{comparison_of}
+use Rattle.zone_maps.specs.Numbers.{number_cell}
 use Rattle.query_plan.specs.Scan.{TestOf}
 
 -- a number whose size is at most 2 to the 126, as that of each number of a query with types is

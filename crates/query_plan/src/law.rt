@@ -5,7 +5,7 @@ ghost use Rattle.query_plan.specs.Worked.{WorkedBlocks, WorkedTests};
 
 use odata_types::tables_are_inputs;
 use query_meaning::bounds_hold;
-use summary_eval::numbers_are_tested;
+use zone_maps::numbers_are_tested;
 
 /// A bare scan reads every block, and gives all rows.
 pub fn bare_scans_read_all()

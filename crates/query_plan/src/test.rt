@@ -11,7 +11,7 @@ use cell_types::Value;
 use odata_types::{MOST_SIZE, scaled};
 use std::alloc::{AllocError, Global};
 use std::borrow::CowStr;
-use summary_eval::{comparison_of, number_value};
+use zone_maps::{comparison_of, number_value};
 use typed_trees::{ComparisonOperator, MILLIONTHS, NumberExpr, NumberKind, TextExpr, TruthExpr};
 
 /// Returns a number after a `-`, if it is at most 2 to the 126 in size.

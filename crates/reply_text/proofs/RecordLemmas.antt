@@ -10,7 +10,7 @@ use Rattle.cell_types.specs.Date.{two_digits}
 use Rattle.cell_types.specs.Decimal.{decimal_text, fraction_text, is_zero, millionths_text, six_digits, without_last_zeros}
 use Rattle.cell_types.specs.Value as cell
 use Rattle.cell_types.specs.Value.{CellValue, null, integer, text, boolean, date}
-use Rattle.query_rows.specs.Rows.{RowsOf}
+use Rattle.result_rows.specs.Rows.{RowsOf}
 use Rattle.jiff_fmt.specs.Text.{year_text, pad2}
 use Rattle.reply_values.specs.Value.{bool_text, day_text}
 use Rattle.reply_text.specs.Csv.{csv_line, row_line, csv_text}

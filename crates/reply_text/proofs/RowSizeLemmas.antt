@@ -3,7 +3,7 @@ use Rattle.std.proofs.Common.{◌≡◌, ◌<◌, ◌≤◌, ℕ, zero, suc, ◌
 use Rattle.std.specs.Prelude.{max}
 use Rattle.std.proofs.lemmas.List.{length-map, map-append, take-append-le, take_all}
 use Rattle.cell_types.specs.Value.{CellValue}
-use Rattle.query_rows.specs.Rows.{BeginWith, RowsOf}
+use Rattle.result_rows.specs.Rows.{BeginWith, RowsOf}
 use Rattle.reply_text.specs.declared.row_sizes.RowSizes.{RowSizes}
 use Rattle.reply_text.specs.Csv.{csv_line, row_line}
 use Rattle.reply_text.specs.Json.{comma_before, json_row}

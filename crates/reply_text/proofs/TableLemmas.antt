@@ -19,7 +19,7 @@ use Rattle.csvw_meta.specs.Laws.{IsAccepted, AcceptedSchemas}
 use Rattle.table_store.specs.Table.{TableOf, mismatch_from, value_then, values_from, row_then, rows_from}
 use Rattle.table_store.specs.File.{file_named, FileOf}
 use Rattle.table_store.specs.Catalog.{HasTable, HaveTables}
-use Rattle.query_rows.specs.Rows.{rows_of_table}
+use Rattle.result_rows.specs.Rows.{rows_of_table}
 use Rattle.reply_text.specs.Laws.{IsPlainName, FitCsv, TablesFitCsv}
 use Rattle.reply_text.proofs.RecordLemmas.{AreAbove, plain-from_above}
 

@@ -7,7 +7,7 @@ use Rattle.std.proofs.lemmas.List.Elements.{All-from_recursion, recursion_from_A
 use Rattle.std.proofs.lemmas.List.Sums.{sum_by-cons}
 use Rattle.std.proofs.lemmas.List.Sorted.{All-permutation, IsPermutation-map, IsPermutation-sym, sum_by-IsPermutation}
 use Rattle.cell_types.specs.Value.{CellValue}
-use Rattle.query_rows.specs.Rows.{RowsOf}
+use Rattle.result_rows.specs.Rows.{RowsOf}
 use Rattle.row_columns.specs.Numbers.{numbers_from}
 use Rattle.reply_text.specs.declared.row_sizes.RowSizes.{RowSizes}
 use Rattle.reply_text.specs.Pieces.{json_items, longest_of, AreSizesOf}

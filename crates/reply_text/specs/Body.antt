@@ -2,9 +2,9 @@
 use Rattle.std.specs.Prelude.{List, [], ℕ, ◌++◌, map, codes, get_or}
 use Rattle.std.specs.List.{join_with_byte}
 use Rattle.table_store.specs.Table.{TableOf}
-use Rattle.query_rows.specs.Rows.{RowsOf}
-use Rattle.reply_codes.specs.declared.code.Code.{Code}
-use Rattle.reply_codes.specs.Code.{code_name, message_of}
+use Rattle.result_rows.specs.Rows.{RowsOf}
+use Rattle.odata_errors.specs.declared.code.Code.{Code}
+use Rattle.odata_errors.specs.Code.{code_name, message_of}
 use Rattle.reply_text.specs.Json.{json_row, json_count}
 use Rattle.reply_values.specs.Json.{json_text, json_text_member}
 

@@ -3,7 +3,7 @@ use Rattle.std.specs.Prelude.{ℕ, List, ◌∷◌, [], ◌++◌, map}
 use Rattle.std.specs.List.{flat_map, join_with_byte}
 use Rattle.csv_grammar.specs.Bytes.{comma, carriage_return, line_feed}
 use Rattle.cell_types.specs.Value.{CellValue}
-use Rattle.query_rows.specs.Rows.{RowsOf}
+use Rattle.result_rows.specs.Rows.{RowsOf}
 use Rattle.reply_values.specs.Csv.{csv_value}
 
 -- a line of fields

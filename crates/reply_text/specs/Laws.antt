@@ -7,7 +7,7 @@ use Rattle.csv_grammar.specs.Records.{Field, unquoted, quoted, content, is_plain
 use Rattle.cell_types.specs.Decimal.{decimal_text}
 use Rattle.cell_types.specs.Value.{CellValue, null, integer, text, boolean, date, decimal}
 use Rattle.table_store.specs.Catalog.{FolderOf, CatalogOf, Means}
-use Rattle.query_rows.specs.Rows.{RowsOf, rows_of_table}
+use Rattle.result_rows.specs.Rows.{RowsOf, rows_of_table}
 use Rattle.reply_values.specs.Value.{bool_text, day_text}
 use Rattle.reply_text.specs.Body.{rows_text}
 use Rattle.reply_text.specs.Csv.{csv_text}

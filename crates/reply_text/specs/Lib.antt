@@ -9,5 +9,5 @@ pub mod Cursor
 pub mod Inside
 pub mod Laws
 pub mod Waiting
-pub use Rattle.query_rows.specs.Rows
+pub use Rattle.result_rows.specs.Rows
 pub use Rattle.table_store.specs.Table

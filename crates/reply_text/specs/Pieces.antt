@@ -2,7 +2,7 @@
 use Rattle.std.specs.Prelude.{◌≡◌, ℕ, ◌+◌, List, [], ◌∷◌, ◌++◌, Option, codes, length, map, max}
 use Rattle.std.specs.List.{concat}
 use Rattle.cell_types.specs.Value.{CellValue}
-use Rattle.query_rows.specs.Rows.{RowsOf}
+use Rattle.result_rows.specs.Rows.{RowsOf}
 use Rattle.reply_text.specs.Csv.{csv_line, row_line}
 use Rattle.reply_text.specs.Json.{comma_before, json_count, json_row}
 use Rattle.reply_values.specs.Json.{json_text}

@@ -1,6 +1,6 @@
 -- How many bytes the first rows of an answer take.
 use Rattle.std.specs.Prelude.{◌≡◌, ℕ, ◌≤◌, List, length, map, take}
-use Rattle.query_rows.specs.Rows.{RowsOf}
+use Rattle.result_rows.specs.Rows.{RowsOf}
 use Rattle.reply_text.specs.declared.row_sizes.RowSizes.{RowSizes}
 use Rattle.reply_text.specs.declared.sizes.Sizes.{Sizes}
 use Rattle.reply_text.specs.Csv.{row_line}

@@ -10,7 +10,7 @@ ghost use Rattle.reply_values.specs.Size.{told};
 use crate::row_sizes::RowSizes;
 use crate::sizes::Sizes;
 use cell_texts::{csv_cell_size, none_seen, read_ahead};
-use query_rows::Rows;
+use result_rows::Rows;
 use row_columns::Columns;
 
 /// Returns how many bytes names take.
@@ -39,7 +39,7 @@ fn values_size(columns: &Columns, row: usize) -> usize
     ensures { result ≡ told (length (flat_map csv_value (get_or columns.now.rows row []))) }
 {
     columns.rows_are_wide();
-    let values = columns.lent_row(row);
+    let values = columns.row_ref(row);
     let mut size = 0usize;
     for col in 0..columns.width() {
         size = size.saturating_add(csv_cell_size(values.cell(col)));

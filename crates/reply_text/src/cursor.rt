@@ -15,7 +15,7 @@ use crate::json_turns::counted_in_turns;
 use crate::pieces::Pieces;
 use crate::row_sizes::RowSizes;
 use crate::sizes::Sizes;
-use query_rows::Rows;
+use result_rows::Rows;
 use std::alloc::{AllocError, Global};
 use std::marker::Model;
 

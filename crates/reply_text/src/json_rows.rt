@@ -9,7 +9,7 @@ ghost use Rattle.reply_values.specs.Size.{told};
 use crate::json_sizes::frame_size;
 use crate::put_rows::put_item;
 use cell_texts::json_cell_room;
-use query_rows::Rows;
+use result_rows::Rows;
 use reply_values::{push_number, push_text};
 use std::alloc::{AllocError, Global};
 
@@ -53,7 +53,7 @@ fn item_room(rows: &Rows, row: usize, frame: usize) -> usize
     ensures { told (length
         (comma_before row ++ json_row rows.now.names (get_or rows.now.rows row []))) ≤ result }
 {
-    let values = rows.lent_row(row);
+    let values = rows.row_ref(row);
     let mut room = frame.saturating_add(1);
     for col in 0..rows.width() {
         room = room.saturating_add(json_cell_room(values.cell(col)));

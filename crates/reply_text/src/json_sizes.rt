@@ -12,7 +12,7 @@ ghost use Rattle.reply_values.specs.Size.{told};
 use crate::row_sizes::RowSizes;
 use crate::sizes::Sizes;
 use cell_texts::{json_cell_size, none_seen, read_ahead};
-use query_rows::Rows;
+use result_rows::Rows;
 use reply_values::{number_size, text_size};
 use row_columns::Columns;
 
@@ -45,7 +45,7 @@ fn object_size(columns: &Columns, row: usize, frame: usize) -> usize
         + length (flat_map json_value (get_or columns.now.rows row []))) }
 {
     columns.rows_are_wide();
-    let values = columns.lent_row(row);
+    let values = columns.row_ref(row);
     let mut size = frame;
     for col in 0..columns.width() {
         size = size.saturating_add(json_cell_size(values.cell(col)));

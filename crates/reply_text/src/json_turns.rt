@@ -9,7 +9,7 @@ use crate::json_sizes::{frame_size, item_size};
 use crate::row_sizes::RowSizes;
 use crate::sizes::Sizes;
 use cell_texts::none_seen;
-use query_rows::Rows;
+use result_rows::Rows;
 use row_columns::Columns;
 use std::alloc::{AllocError, Global};
 

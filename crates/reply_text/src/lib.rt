@@ -26,6 +26,6 @@ pub use laws::{
 };
 pub use output::Output;
 pub use reply::Reply;
-pub use reply_codes::Code;
+pub use odata_errors::Code;
 pub use reply_values::push_number;
 pub use row_sizes::RowSizes;

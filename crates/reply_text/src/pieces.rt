@@ -6,7 +6,7 @@ ghost use Rattle.reply_text.specs.Pieces.{csv_pieces, json_pieces};
 
 use crate::put_rows::{put_item, put_line, put_name_line};
 use cell_texts::read_ahead;
-use query_rows::Rows;
+use result_rows::Rows;
 use reply_values::put_piece;
 
 /// What a body is written from.

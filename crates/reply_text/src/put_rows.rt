@@ -8,7 +8,7 @@ ghost use Rattle.reply_values.specs.Csv.{csv_value};
 ghost use Rattle.reply_values.specs.Json.{json_value};
 
 use cell_texts::{put_csv_cell, put_json_cell};
-use query_rows::Rows;
+use result_rows::Rows;
 use reply_values::{put_byte, put_piece};
 use row_columns::Cell;
 
@@ -52,7 +52,7 @@ fn put_members(out: &mut [u8], at: usize, rows: &Rows, row: usize, heads: &[Vec<
     ensures end { result
         ≡ at + length (json_members rows.now.names (get_or rows.now.rows row [])) }
 {
-    let values = rows.lent_row(row);
+    let values = rows.row_ref(row);
     let mut end = at;
     for col in 0..rows.width() {
         end = put_member(out, end, heads[col].as_slice(), values.cell(col));
@@ -106,7 +106,7 @@ fn put_values(out: &mut [u8], at: usize, rows: &Rows, row: usize) -> usize
     ensures end { result
         ≡ at + length (join_with_byte 44 (map csv_value (get_or rows.now.rows row []))) }
 {
-    let values = rows.lent_row(row);
+    let values = rows.row_ref(row);
     let mut end = at;
     for col in 0..rows.width() {
         end = put_field(out, end, col, values.cell(col));

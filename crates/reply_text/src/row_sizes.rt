@@ -1,6 +1,6 @@
 //! How many bytes the first rows of an answer take, of which more may be to come. None is written.
 ghost use Rattle.std.specs.Prelude.{◌≡◌, ℕ, List, length, map, max, string_bytes};
-ghost use Rattle.query_rows.specs.Rows.{BeginWith, RowsOf};
+ghost use Rattle.result_rows.specs.Rows.{BeginWith, RowsOf};
 ghost use Rattle.reply_text.specs.RowSizes.{AreCsvSizes, AreJsonSizes};
 
 use crate::csv_sizes::with_lines;

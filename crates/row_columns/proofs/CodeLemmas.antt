@@ -6,8 +6,8 @@ use Rattle.block_summary.specs.declared.block.TheConstants.{BLOCK_ROWS}
 use Rattle.cell_types.specs.Value.{CellValue, null}
 use Rattle.text_columns.specs.Codes.{AreCodes}
 use Rattle.text_columns.specs.declared.codes.TextCodes.{TextCodes}
-use Rattle.typed_columns.specs.ColumnCells.{ColumnCells}
-use Rattle.typed_columns.specs.TypedColumn.{cells_of_texts}
+use Rattle.column_blocks.specs.ColumnCells.{ColumnCells}
+use Rattle.column_blocks.specs.TypedColumn.{cells_of_texts}
 use Rattle.row_columns.specs.Codes.{HaveCodes, HaveCodesAt}
 use Rattle.row_columns.specs.Piece.{piece_row}
 use Rattle.row_columns.specs.Store.{numbered_row}

@@ -8,7 +8,7 @@ use Rattle.block_summary.specs.Ranges.{column_of}
 use Rattle.block_summary.specs.declared.block.TheConstants.{BLOCK_ROWS}
 use Rattle.block_summary.specs.declared.number.PackedType.{PackedType}
 use Rattle.cell_types.specs.Value.{CellValue, null}
-use Rattle.typed_columns.specs.ColumnCells.{ColumnCells}
+use Rattle.column_blocks.specs.ColumnCells.{ColumnCells}
 use Rattle.row_columns.specs.Piece.{piece_row}
 use Rattle.row_columns.specs.Store.{numbered_row}
 use Rattle.row_columns.proofs.PieceLemmas.{cell_of_piece}

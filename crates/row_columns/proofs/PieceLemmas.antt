@@ -15,8 +15,8 @@ use Rattle.cell_types.specs.Value.{CellValue, null, integer, text, boolean, date
 use Rattle.table_store.specs.Block.{typed_cells_of}
 use Rattle.table_store.specs.Fits.{HasTableRows, IsTableRow}
 use Rattle.table_store.specs.Table.{TableOf}
-use Rattle.typed_columns.specs.ColumnCells.{ColumnCells}
-use Rattle.typed_columns.specs.TypedColumn.{cells_of_texts, typed_cells}
+use Rattle.column_blocks.specs.ColumnCells.{ColumnCells}
+use Rattle.column_blocks.specs.TypedColumn.{cells_of_texts, typed_cells}
 use Rattle.row_columns.specs.Picked.{values_at}
 use Rattle.row_columns.specs.Piece.{no_cells, piece_at, piece_row, HasTextsAlone, HaveTextsAlone}
 use Rattle.row_columns.specs.Text.{text_of_cell, IsNoText}

@@ -11,7 +11,7 @@ use Rattle.cell_types.specs.Column.{ColumnOf}
 use Rattle.cell_types.specs.Value.{CellValue, null, value_view}
 use Rattle.cell_types.specs.declared.value.Value.{Value}
 use Rattle.table_store.specs.Fits.{IsTableRow}
-use Rattle.typed_columns.specs.ColumnCells.{ColumnCells}
+use Rattle.column_blocks.specs.ColumnCells.{ColumnCells}
 use Rattle.row_columns.specs.declared.store.Store.{Store}
 use Rattle.row_columns.specs.Numbers.{numbers_from}
 use Rattle.row_columns.specs.Picked.{numbered, values_at}

@@ -14,7 +14,7 @@ use Rattle.cell_types.specs.Datatype.{datatype_view, DatatypeOf}
 use Rattle.cell_types.specs.Value.{CellValue, null, value_view}
 use Rattle.cell_types.specs.declared.column.Column.{Column}
 use Rattle.cell_types.specs.declared.value.Value.{Value}
-use Rattle.typed_columns.specs.ColumnCells.{ColumnCells}
+use Rattle.column_blocks.specs.ColumnCells.{ColumnCells}
 use Rattle.row_columns.specs.declared.store.Store.{Store}
 use Rattle.row_columns.specs.declared.store.Store.TheVariants.{Blocks, Values}
 use Rattle.row_columns.specs.Kinds.{any, kind_of_datatype, kinds_of, KindOf}

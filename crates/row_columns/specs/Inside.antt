@@ -3,7 +3,7 @@ use Rattle.std.specs.Prelude.{◌<◌, ℕ, List, map}
 use Rattle.std.specs.List.{AllByRecursion}
 use Rattle.cell_types.specs.Value.{CellValue}
 use Rattle.row_columns.specs.declared.columns.Columns.TheInside.{Inside}
-use Rattle.row_columns.specs.declared.lent_row.LentRow.TheInside as lent
+use Rattle.row_columns.specs.declared.row_ref.RowRef.TheInside as lent
 use Rattle.row_columns.specs.Columns.{ColumnsOf}
 use Rattle.row_columns.specs.Store.{end_of, stored_kinds, stored_row, IsStoredWide}
 
@@ -16,8 +16,8 @@ pub record HoldRows (columns : Inside) : Type 0 where
   pub within : AllByRecursion (λ (number : ℕ). number < end_of columns.store) columns.numbers
 
 -- what a row that is lent holds inside
-abbrev pub lent_row_view : lent.Inside → List CellValue
-lent_row_view row = stored_row row.store.now row.number
+abbrev pub row_ref_view : lent.Inside → List CellValue
+row_ref_view row = stored_row row.store.now row.number
 
 pub record IsLent (row : lent.Inside) : Type 0 where
   pub wide : IsStoredWide row.store.now

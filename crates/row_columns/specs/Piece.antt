@@ -4,7 +4,7 @@ use Rattle.std.specs.List.{AllByRecursion}
 use Rattle.block_summary.specs.declared.number.PackedType.{PackedType}
 use Rattle.cell_types.specs.Value.{CellValue, null}
 use Rattle.row_columns.specs.Text.{IsNoText}
-use Rattle.typed_columns.specs.ColumnCells.{ColumnCells}
+use Rattle.column_blocks.specs.ColumnCells.{ColumnCells}
 
 abbrev pub no_cells : ColumnCells
 no_cells = record { packed_type = None; cells = [] }

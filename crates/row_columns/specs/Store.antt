@@ -11,7 +11,7 @@ use Rattle.row_columns.specs.declared.store.Store.TheVariants.{Blocks, Values}
 use Rattle.row_columns.specs.Kinds.{KindOf, any, dates, decimals, integers, texts, truths}
 use Rattle.row_columns.specs.Picked.{kinds_at, values_at}
 use Rattle.row_columns.specs.Piece.{piece_row}
-use Rattle.typed_columns.specs.ColumnCells.{ColumnCells}
+use Rattle.column_blocks.specs.ColumnCells.{ColumnCells}
 
 -- the kind of a column, by what its numbers stand for
 abbrev pub kind_of_type : Option PackedType → KindOf

@@ -9,7 +9,7 @@ use block_summary::{PackedColumn, PackedType};
 use cell_types::Value;
 use jiff_core::civil::Date;
 use text_columns::TextColumn;
-use typed_columns::BlockCells;
+use column_blocks::BlockCells;
 
 /// A cell, as it is kept. It is as small as what it lends, so that a row is read without a [`Value`] between.
 #[derive(Clone, Copy, Drop)]

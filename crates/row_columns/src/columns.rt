@@ -11,7 +11,7 @@ ghost use Rattle.row_columns.specs.Picked.{kinds_at, numbered, values_at};
 ghost use Rattle.row_columns.specs.Store.{value_rows};
 ghost use Rattle.row_columns.specs.Text.{text_of_cell};
 
-use crate::lent_row::LentRow;
+use crate::row_ref::RowRef;
 use crate::row_numbers::RowNumbers;
 use crate::store::{Store, types_at, types_of};
 use block_summary::PackedColumn;
@@ -194,12 +194,12 @@ impl Columns {
 
     /// Returns a row, counted from 0. It takes no memory, and where several values of a row are asked for, it is the faster way.
     #[inline(always)]
-    pub fn lent_row(&self, row: usize) -> LentRow<'_>
+    pub fn row_ref(&self, row: usize) -> RowRef<'_>
         requires { row < length self.now.rows }
         ensures row { slice_get self.now.rows row ≡ Some result }
         ensures width { length result ≡ length self.now.kinds }
     {
-        LentRow::of(&self.store, self.numbers.at(row) as usize)
+        RowRef::of(&self.store, self.numbers.at(row) as usize)
     }
 
     /// Returns the text of a row and a column, both counted from 0, or `None` if the value is null, or no text. It takes no memory.

@@ -4,7 +4,7 @@
 
 mod cell;
 mod columns;
-mod lent_row;
+mod row_ref;
 mod piece;
 mod row_numbers;
 mod store;
@@ -14,5 +14,5 @@ mod values;
 
 pub use cell::Cell;
 pub use columns::Columns;
-pub use lent_row::LentRow;
+pub use row_ref::RowRef;
 pub use values::{lent, owned};

@@ -14,7 +14,7 @@ use cell_types::Value;
 use std::alloc::{AllocError, Global};
 use std::marker::Model;
 use table_store::Block;
-use typed_columns::BlockCells;
+use column_blocks::BlockCells;
 
 /// The cells of some columns of a block.
 #[derive(Drop)]
@@ -24,7 +24,7 @@ pub(crate) struct Piece {
 
 impl Model for Piece {
     ghost use Rattle.std.specs.Prelude.{List};
-    ghost use Rattle.typed_columns.specs.ColumnCells.{ColumnCells};
+    ghost use Rattle.column_blocks.specs.ColumnCells.{ColumnCells};
 
     ghost Value = { List ColumnCells };
 

@@ -1,11 +1,11 @@
 -- The lines that the service writes of itself.
 use Rattle.std.specs.Prelude.{◌≡◌, ◌⊎◌, ℕ, ◌+◌, ◌-◌, min, nat_le, true, false, Bool, List, [], ◌∷◌, ◌++◌, Result, Ok, Err, codes}
 use Rattle.std.specs.Fmt.{decimal}
-use Rattle.program_ends.specs.Text.{fault_text}
-use Rattle.program_ends.specs.declared.fault.ProgramFault.{ProgramFault}
+use Rattle.exit_statuses.specs.Text.{fault_text}
+use Rattle.exit_statuses.specs.declared.fault.ProgramFault.{ProgramFault}
 use Rattle.service_log.specs.Lines.{AddsLine, LeavesLineOut}
 use Rattle.service_log.specs.declared.lines.Lines.{Lines}
-use Rattle.service_log.specs.declared.log.Loaded.{Loaded}
+use Rattle.service_log.specs.declared.log.LoadSummary.{LoadSummary}
 use Rattle.service_log.specs.declared.log.Log.{Log}
 use Rattle.service_log.specs.declared.log.Tally.{Tally}
 use Rattle.service_log.specs.declared.work.Work.{Work}
@@ -32,7 +32,7 @@ abbrev pub ended_text : ℕ → List ℕ → List ℕ
 ended_text place reason = (codes "ended " ++ decimal place ++ codes " ") ++ reason
 
 -- what was loaded anew, and how long that took
-abbrev pub reloaded_text : Loaded → List ℕ
+abbrev pub reloaded_text : LoadSummary → List ℕ
 reloaded_text loaded = codes "reloaded " ++ decimal loaded.tables ++ codes " tables, " ++ decimal loaded.rows ++ codes " rows, "
     ++ decimal loaded.millis ++ codes " ms"
 
@@ -112,7 +112,7 @@ pub record CountsAlone (tally : Tally) (old new : Log) : Type 0 where
   pub minute_is : new.minute ≡ old.minute
 
 -- a folder that was reloaded is logged, and its tables begin a minute; of one that was not nothing is
-abbrev pub LogsReload : Result Loaded ProgramFault → Log → Log → Type 0
+abbrev pub LogsReload : Result LoadSummary ProgramFault → Log → Log → Type 0
 LogsReload (Ok loaded) old new = Logs (reloaded_text loaded) (tally_after_reload old.tally) 0 old new
 LogsReload (Err fault) old new = new ≡ old
 

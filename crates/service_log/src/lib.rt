@@ -7,5 +7,5 @@ mod texts;
 mod work;
 
 pub use lines::{Lines, MOST_WAITING};
-pub use log::{CloseReason, Loaded, Log, Tally, tells_lines};
+pub use log::{CloseReason, LoadSummary, Log, Tally, tells_lines};
 pub use work::{Work, worked_minute};

@@ -11,7 +11,7 @@ use crate::texts::{
 use crate::work::Work;
 use libc::net::{POLLERR, POLLHUP, POLLNVAL, POLLOUT, poll};
 use libc::types::pollfd;
-use program_ends::ProgramFault;
+use exit_statuses::ProgramFault;
 use std::alloc::AllocError;
 use std::io::{self, ErrorKind, Write};
 use std::os::fd::AsRawFd;
@@ -58,7 +58,7 @@ impl CloseReason {
 
 /// What was loaded: how many tables and rows, and how long that took.
 #[derive(Clone, Copy)]
-pub struct Loaded {
+pub struct LoadSummary {
     pub tables: u64,
     pub rows: u64,
     pub millis: u64,
@@ -80,7 +80,7 @@ pub struct Tally {
 pub fn tells_lines()
     ensures { TellsLines }
 {
-    program_ends::faults_are_one_line();
+    exit_statuses::faults_are_one_line();
 }
 
 /// True if a write to a descriptor returns at once: it has room, or it fails.
@@ -166,7 +166,7 @@ impl<'a> Log<'a> {
     }
 
     /// Logs that a changed folder was reloaded; and says on standard error why it was not.
-    pub fn reloaded(&mut self, end: Result<Loaded, ProgramFault>)
+    pub fn reloaded(&mut self, end: Result<LoadSummary, ProgramFault>)
         ensures { LogsReload end self.old self.new }
     {
         match end {

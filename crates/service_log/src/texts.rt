@@ -2,9 +2,9 @@
 ghost use Rattle.std.specs.Prelude.{◌≡◌, IfOk, string_bytes};
 ghost use Rattle.service_log.specs.Log.{age_text, as_line, counts_text, ended_text, longest_text, minute_text, opened_text, refused_text, reloaded_text, sent_text};
 
-use crate::log::{Loaded, Tally};
+use crate::log::{LoadSummary, Tally};
 use crate::work::Work;
-use program_ends::{ProgramFault, fault_line};
+use exit_statuses::{ProgramFault, fault_line};
 use std::alloc::{AllocError, Global};
 
 /// What is said of a changed folder that was not loaded, if nothing more is known of it.
@@ -28,7 +28,7 @@ pub(crate) fn ended_line(alloc: Global, place: u32, reason: &str) -> Result<Stri
 }
 
 /// Returns the line of a changed folder that was reloaded.
-pub(crate) fn reloaded_line(alloc: Global, loaded: &Loaded) -> Result<String, AllocError>
+pub(crate) fn reloaded_line(alloc: Global, loaded: &LoadSummary) -> Result<String, AllocError>
     ensures { IfOk result (λ line. string_bytes line ≡ as_line (reloaded_text loaded.now)) }
 {
     let (tables, rows, millis) = (loaded.tables, loaded.rows, loaded.millis);

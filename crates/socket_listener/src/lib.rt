@@ -3,4 +3,4 @@
 
 mod listener;
 
-pub use listener::Listener;
+pub use listener::ListeningSocket;

@@ -10,7 +10,7 @@ use std::rt::Files;
 
 /// A listener, whose `accept` does not wait.
 #[derive(Drop)]
-pub enum Listener {
+pub enum ListeningSocket {
     /// At a port of an address.
     Port(TcpListener),
     /// At a path.
@@ -31,16 +31,16 @@ fn is_stale<R: Files + Net>(rt: &R, path: &str) -> io::Result<bool> {
     }
 }
 
-impl Listener {
+impl ListeningSocket {
     /// Listens at a port.
-    pub fn at_port<R: Net>(rt: &R, address: SocketAddr) -> io::Result<Listener> {
-        Ok(Listener::Port(TcpListener::bind(rt, address)?))
+    pub fn at_port<R: Net>(rt: &R, address: SocketAddr) -> io::Result<ListeningSocket> {
+        Ok(ListeningSocket::Port(TcpListener::bind(rt, address)?))
     }
 
     /// Listens at a path. A socket there on which nobody listens is replaced, and nothing else.
-    pub fn at_path<R: Files + Net>(rt: &R, path: &str) -> io::Result<Listener> {
+    pub fn at_path<R: Files + Net>(rt: &R, path: &str) -> io::Result<ListeningSocket> {
         match UnixListener::bind(rt, path) {
-            Ok(listener) => return Ok(Listener::Unix(listener)),
+            Ok(listener) => return Ok(ListeningSocket::Unix(listener)),
             Err(error) if error.kind() == ErrorKind::AddrInUse => {}
             Err(error) => return Err(error),
         }
@@ -48,23 +48,23 @@ impl Listener {
             return Err(io::Error::from(ErrorKind::AddrInUse));
         }
         fs::remove_file(rt, path)?;
-        Ok(Listener::Unix(UnixListener::bind(rt, path)?))
+        Ok(ListeningSocket::Unix(UnixListener::bind(rt, path)?))
     }
 
     /// Listens on the socket that is standard input, of which it takes another descriptor. Fails if that is no socket of TCP that listens.
-    pub fn of_input(rt: &HostRuntime) -> io::Result<Listener> {
+    pub fn of_input(rt: &HostRuntime) -> io::Result<ListeningSocket> {
         let input = rt.stdin();
         let listener = net::TcpListener::from(input.as_fd().try_clone_to_owned()?);
         listener.local_addr()?;
         listener.set_nonblocking(true)?;
         let listener = TcpListener::from_std(listener);
-        Ok(Listener::Port(listener))
+        Ok(ListeningSocket::Port(listener))
     }
 
     /// Returns the address of a port.
     pub fn address(&self) -> io::Result<SocketAddr> {
         match self {
-            Listener::Port(listener) => listener.local_addr(),
+            ListeningSocket::Port(listener) => listener.local_addr(),
             _ => Err(io::Error::from(ErrorKind::Unsupported)),
         }
     }
@@ -72,40 +72,40 @@ impl Listener {
     /// Takes a connection that waits. Over a Unix socket it has the type of one over TCP, which reads, writes and shuts down alike.
     pub fn accept(&self) -> io::Result<TcpStream> {
         match self {
-            Listener::Port(listener) => {
+            ListeningSocket::Port(listener) => {
                 let (stream, _) = listener.accept()?;
                 Ok(stream)
             }
-            Listener::Unix(listener) => {
+            ListeningSocket::Unix(listener) => {
                 let (stream, _) = listener.accept()?;
                 Ok(TcpStream::from(OwnedFd::from(stream)))
             }
-            Listener::Closed => Err(io::Error::from(ErrorKind::WouldBlock)),
+            ListeningSocket::Closed => Err(io::Error::from(ErrorKind::WouldBlock)),
         }
     }
 
     /// Has the system report the connections that come.
     pub fn register(&mut self, poll: &Poll, token: Token) -> io::Result<()> {
         match self {
-            Listener::Port(listener) => {
+            ListeningSocket::Port(listener) => {
                 poll.registry()
                     .register(listener, token, Interest::READABLE)
             }
-            Listener::Unix(listener) => {
+            ListeningSocket::Unix(listener) => {
                 poll.registry()
                     .register(listener, token, Interest::READABLE)
             }
-            Listener::Closed => Ok(()),
+            ListeningSocket::Closed => Ok(()),
         }
     }
 
     /// Takes no connection any more. The system is asked for no more reports first: another descriptor of the socket may stay open.
     pub fn close(&mut self, poll: &Poll) {
         let _ = match self {
-            Listener::Port(listener) => poll.registry().deregister(listener),
-            Listener::Unix(listener) => poll.registry().deregister(listener),
-            Listener::Closed => Ok(()),
+            ListeningSocket::Port(listener) => poll.registry().deregister(listener),
+            ListeningSocket::Unix(listener) => poll.registry().deregister(listener),
+            ListeningSocket::Closed => Ok(()),
         };
-        *self = Listener::Closed;
+        *self = ListeningSocket::Closed;
     }
 }

@@ -14,7 +14,7 @@ use Rattle.cell_types.specs.Value.{CellValue, null}
 use Rattle.csv_grammar.proofs.ListLaws.{slice_get-drop, slice_get-take}
 use Rattle.table_store.specs.Table.{TableOf}
 use Rattle.table_store.specs.Block.{block_of, packed_cells, part, text_cells, typed_cells_of}
-use Rattle.typed_columns.specs.TypedColumn.{block_in, cells_of_texts, typed_cells, ColumnCells}
+use Rattle.column_blocks.specs.TypedColumn.{block_in, cells_of_texts, typed_cells, ColumnCells}
 use Rattle.table_store.proofs.ColumnLemmas.{there}
 
 -- the first of a list, as many as are asked for or as there are

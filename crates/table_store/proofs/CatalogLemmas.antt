@@ -8,7 +8,7 @@ use Rattle.csvw_meta.specs.Laws.{IsAccepted}
 use Rattle.table_store.specs.File.{FileOf, file_named}
 use Rattle.table_store.specs.Table.{TableOf}
 use Rattle.table_store.specs.Fault.{TableCause, LoadCause, no_metadata, bad_meta, bad_table}
-use Rattle.row_keys.specs.Keys.{AreColumns}
+use Rattle.key_index.specs.Keys.{AreColumns}
 use Rattle.table_store.specs.Catalog.{HasTable, HasTableCause, HaveTables, IsFirstBadTable}
 use Rattle.table_store.specs.FolderSteps.{HaveFiles}
 use Rattle.table_store.specs.Loading.{IsRefusedTable, IsFirstRefused}

@@ -10,12 +10,12 @@ use Rattle.block_summary.specs.Ranges.{column_of}
 use Rattle.cell_types.specs.Column.{ColumnOf}
 use Rattle.cell_types.specs.Value.{CellValue, null}
 use Rattle.csvw_meta.specs.Schema.{SchemaOf}
-use Rattle.row_keys.specs.Key.{row_keys}
-use Rattle.row_keys.specs.Keys.{typed_keys, typed_row}
+use Rattle.key_index.specs.Key.{key_index}
+use Rattle.key_index.specs.Keys.{typed_keys, typed_row}
 use Rattle.table_store.specs.Inside.{rows_of_columns, table_of}
 use Rattle.table_store.specs.Summaries.{cells_by_column}
 use Rattle.table_store.specs.Table.{TableOf}
-use Rattle.typed_columns.specs.TypedColumn.{typed_cells, AreTyped, ColumnCells}
+use Rattle.column_blocks.specs.TypedColumn.{typed_cells, AreTyped, ColumnCells}
 use Rattle.table_store.proofs.PlaceLemmas.{slice_get-from_read}
 
 -- ---- rows of columns: there are so many
@@ -131,12 +131,12 @@ typed-rows columns rows typed n count wide are =
     (λ col within. cells_by_column-at columns rows typed are col (omega (arith, within, same)))
 
 -- the keys of columns are those of their rows
-pub typed-keys : (places : List ℕ) (typed : List ColumnCells) (n : ℕ) → typed_keys places typed n ≡ row_keys places (rows_of_columns n (cells_by_column typed))
+pub typed-keys : (places : List ℕ) (typed : List ColumnCells) (n : ℕ) → typed_keys places typed n ≡ key_index places (rows_of_columns n (cells_by_column typed))
 typed-keys places typed n =
     let range = range_with_len 0 n in
     let line : ℕ → List CellValue = λ row. typed_row row typed in
     let size : length (map line range) ≡ n = length-map range line ∙ length-range_with_len 0 n in
-    ap (row_keys places)
+    ap (key_index places)
     (ext_get_or [] (map line range) (rows_of_columns n (cells_by_column typed)) (size ∙ sym (length-rows_of_columns n (cells_by_column typed)))
     (λ row within.
     let inside : row < n = omega (arith, within, size) in

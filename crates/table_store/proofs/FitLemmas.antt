@@ -21,7 +21,7 @@ use Rattle.csvw_meta.specs.Laws.{HasShortDefaults}
 use Rattle.csvw_meta.specs.Schema.{SchemaOf}
 use Rattle.table_store.specs.Fits.{HasTableRows, IsShortValue, IsTableRow}
 use Rattle.table_store.specs.Loading.{table_at, IsTableAt}
-use Rattle.raw_fields.specs.Values.{AllHaveValues, HaveValues, rows_in, value_or_null, values_in}
+use Rattle.csv_fields.specs.Values.{AllHaveValues, HaveValues, rows_in, value_or_null, values_in}
 
 -- ---- no field says more than its file has
 

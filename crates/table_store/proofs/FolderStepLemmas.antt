@@ -8,9 +8,9 @@ use Rattle.std.proofs.lemmas.Option.{IfSome_then}
 use Rattle.csvw_meta.specs.Laws.{HasShortDefaults}
 use Rattle.csvw_meta.specs.Schema.{SchemaOf, schema_view}
 use Rattle.csvw_meta.specs.declared.schema.Schema.{Schema}
-use Rattle.row_keys.specs.declared.reading.Held.{Held}
-use Rattle.row_keys.specs.declared.reading.Held.TheVariants as held_by
-use Rattle.row_keys.specs.Reading.{held_left}
+use Rattle.key_index.specs.declared.reading.Held.{Held}
+use Rattle.key_index.specs.declared.reading.Held.TheVariants as held_by
+use Rattle.key_index.specs.Reading.{held_left}
 use Rattle.table_store.specs.declared.folder_loading.Loading.{Loading}
 use Rattle.table_store.specs.declared.reading.Stage.{Stage}
 use Rattle.table_store.specs.declared.reading.Stage.TheVariants as stages

@@ -5,7 +5,7 @@ use Rattle.std.proofs.lemmas.List.{length-map}
 use Rattle.std.proofs.lemmas.Slice.Zip.{length-zip}
 use Rattle.csv_grammar.specs.Raw.{RawField}
 use Rattle.cell_types.specs.Column.{ColumnOf}
-use Rattle.raw_fields.specs.Values.{rows_in, value_or_null, value_in, values_in}
+use Rattle.csv_fields.specs.Values.{rows_in, value_or_null, value_in, values_in}
 
 pub length-rows_in : (columns : List ColumnOf) (rows : List (List RawField)) → length (rows_in columns rows) ≡ length rows
 length-rows_in columns rows = length-map rows (values_in columns)

@@ -1,7 +1,7 @@
 -- The keys of annotated tables are different, have no null, and find their rows.
 use Rattle.std.proofs.Common.{ℕ, zero, suc, List, [], ◌∷◌, All, arith}
 use Rattle.csvw_meta.specs.Schema.{SchemaOf}
-use Rattle.row_keys.specs.Laws.{AreKeys, KeysFindRows}
+use Rattle.key_index.specs.Laws.{AreKeys, KeysFindRows}
 use Rattle.table_store.specs.Catalog.{HaveTables}
 use Rattle.table_store.specs.File.{FileOf}
 use Rattle.table_store.specs.Table.{TableOf, keys_of}

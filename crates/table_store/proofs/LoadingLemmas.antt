@@ -11,14 +11,14 @@ use Rattle.cell_types.specs.declared.fault.CellFault.{CellFault}
 use Rattle.cell_types.specs.declared.fault.CellFault.TheVariants.{NoMemory}
 use Rattle.cell_types.specs.Column.{ColumnOf}
 use Rattle.csvw_meta.specs.Schema.{SchemaOf}
-use Rattle.row_keys.specs.declared.keys.KeyFault.{KeyFault}
-use Rattle.row_keys.specs.declared.keys.KeyFault.TheVariants.{Null, Twice}
+use Rattle.key_index.specs.declared.keys.KeyFault.{KeyFault}
+use Rattle.key_index.specs.declared.keys.KeyFault.TheVariants.{Null, Twice}
 use Rattle.table_store.specs.Table.{rows_from, HasCells, HasOtherHeader, HasBadCell}
 use Rattle.table_store.specs.Fault.{TableCause, file_missing, file_too_large, bad_text, bad_header, bad_cell, key_null, key_twice, cell_cause}
-use Rattle.raw_fields.specs.Values.{rows_in, FitsColumns}
-use Rattle.row_keys.specs.Keys.{HasKeyFault}
+use Rattle.csv_fields.specs.Values.{rows_in, FitsColumns}
+use Rattle.key_index.specs.Keys.{HasKeyFault}
 use Rattle.table_store.specs.Loading.{mismatch_of, key_cause, keys_at, bad_cell_of, table_at, ArePartsOf, IsTableAt, IsTableOf, HasRowsCause, HasFileCause}
-use Rattle.row_keys.specs.declared.reading.KeyedRows.{KeyedRows}
+use Rattle.key_index.specs.declared.reading.KeyedRows.{KeyedRows}
 use Rattle.table_store.specs.Catalog.{HasTable}
 use Rattle.table_store.specs.Inside.{table_of}
 use Rattle.table_store.proofs.ColumnLemmas.{typed-rows}

@@ -10,7 +10,7 @@ use Rattle.csvw_meta.specs.Document.{schemas_of}
 use Rattle.csvw_meta.specs.Fault.{MetaCause}
 use Rattle.csvw_meta.specs.Schema.{SchemaOf}
 use Rattle.table_store.specs.File.{FileOf, file_named}
-use Rattle.row_keys.specs.Key.{row_keys, null_row, repeated_row}
+use Rattle.key_index.specs.Key.{key_index, null_row, repeated_row}
 use Rattle.table_store.specs.Table.{TableOf, keys_of, HasCells, IsAnnotated, mismatch_from, rows_from}
 use Rattle.table_store.specs.Fault.{TableCause, file_missing, file_too_large, bad_text, bad_header, bad_cell, key_null, key_twice, LoadCause, no_metadata, bad_meta, bad_table}
 use Rattle.table_store.specs.Catalog.{FolderOf, CatalogOf, HasFile, HasTable, HasTableCause, HaveTables, IsFirstBadTable, Means, IsRefused, schemas_in}
@@ -60,7 +60,7 @@ first_of_keys None None = None
 
 -- the first thing wrong with a header and its records
 first_of_rows : SchemaOf → Result (List (List CellValue)) (ℕ × ℕ × CellFault) → Option TableCause
-first_of_rows schema (Ok rows) = first_of_keys (null_row (row_keys schema.key rows)) (repeated_row (row_keys schema.key rows))
+first_of_rows schema (Ok rows) = first_of_keys (null_row (key_index schema.key rows)) (repeated_row (key_index schema.key rows))
 first_of_rows schema (Err bad) = Some (bad_cell bad.0 bad.1 bad.2)
 
 first_of_header : SchemaOf → Option ℕ → List (List Field) → Option TableCause
@@ -72,7 +72,7 @@ of_cells : (schema : SchemaOf) (bytes : List ℕ) (table : TableOf) (a : HasCell
     → first_of_header schema (mismatch_from 0 schema.columns a.header) a.records ≡ first_of_keys (null_row (keys_of table)) (repeated_row (keys_of table))
 unfolding first_of_header first_of_keys first_of_rows
 of_cells schema bytes table a =
-    rw (a.header_matches, a.values) (ap (λ (s : SchemaOf). first_of_keys (null_row (row_keys s.key table.rows)) (repeated_row (row_keys s.key table.rows))) (sym a.of_schema))
+    rw (a.header_matches, a.values) (ap (λ (s : SchemaOf). first_of_keys (null_row (key_index s.key table.rows)) (repeated_row (key_index s.key table.rows))) (sym a.of_schema))
 
 -- what is first wrong with the bytes of a file: that they are no table, or what is first wrong with its header and records
 abbrev IsOfRecords : SchemaOf → List ℕ → Option TableCause → Type 0

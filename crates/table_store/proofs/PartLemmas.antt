@@ -9,11 +9,11 @@ use Rattle.cell_types.specs.declared.fault.CellFault.{CellFault}
 use Rattle.cell_types.specs.Cell.{value_of}
 use Rattle.cell_types.specs.Column.{ColumnOf}
 use Rattle.cell_types.specs.Value.{CellValue, null}
-use Rattle.raw_fields.specs.Rows.{cell_at}
+use Rattle.csv_fields.specs.Rows.{cell_at}
 use Rattle.csv_grammar.specs.Raw.{RawField, raw_content, field_of}
-use Rattle.raw_fields.specs.Values.{rows_in, values_in, HasValue, HaveValues, AllHaveValues}
-use Rattle.typed_columns.specs.ColumnReader.{ReaderOf, reader_at, with_cells, HaveRead}
-use Rattle.typed_columns.specs.Parts.{field_cell, part_cells, HasCellFault, PartHasValues}
+use Rattle.csv_fields.specs.Values.{rows_in, values_in, HasValue, HaveValues, AllHaveValues}
+use Rattle.column_blocks.specs.ColumnReader.{ReaderOf, reader_at, with_cells, HaveRead}
+use Rattle.column_blocks.specs.Parts.{field_cell, part_cells, HasCellFault, PartHasValues}
 use Rattle.table_store.specs.Parts.{wrong_in_row, wrong_of, AllColumnsHaveValues, ArePartReadOn, HasPartReader, HavePartReaders}
 use Rattle.table_store.specs.Table.{rows_from, row_then, values_from}
 use Rattle.table_store.proofs.InsideLemmas.{length-rows_in}

@@ -4,8 +4,8 @@ use Rattle.std.proofs.lemmas.List.{length-map}
 use Rattle.std.proofs.lemmas.Option.{slice_get-map}
 use Rattle.cell_types.specs.Column.{ColumnOf}
 use Rattle.cell_types.specs.Value.{CellValue}
-use Rattle.typed_columns.specs.ColumnReader.{ReaderOf, cells_read, reader_at, HaveRead}
-use Rattle.typed_columns.specs.TypedColumn.{AreTyped}
+use Rattle.column_blocks.specs.ColumnReader.{ReaderOf, cells_read, reader_at, HaveRead}
+use Rattle.column_blocks.specs.TypedColumn.{AreTyped}
 
 -- ---- the readers of columns
 pub read_start : (total : ℕ) (columns : List ColumnOf) (readers : List ReaderOf) → readers ≡ map (λ column. reader_at total column []) columns

@@ -9,7 +9,7 @@ use Rattle.cell_types.specs.Column.{ColumnOf, column_view}
 use Rattle.cell_types.specs.Cell.{value_of}
 use Rattle.cell_types.specs.declared.column.Column.{Column}
 use Rattle.table_store.specs.Table.{values_from, value_then, rows_from, row_then}
-use Rattle.raw_fields.specs.Values.{value_or_null, values_in, HaveValues, AllHaveValues}
+use Rattle.csv_fields.specs.Values.{value_or_null, values_in, HaveValues, AllHaveValues}
 use Rattle.table_store.proofs.PlaceLemmas.{drop-from_slice_get}
 
 -- ---- one row

@@ -10,7 +10,7 @@ use Rattle.csvw_meta.specs.Document.{schemas_of}
 use Rattle.csvw_meta.specs.Fault.{MetaCause}
 use Rattle.csvw_meta.specs.Schema.{SchemaOf}
 use Rattle.table_store.specs.File.{FileOf, file_named}
-use Rattle.row_keys.specs.Key.{null_row, repeated_row}
+use Rattle.key_index.specs.Key.{null_row, repeated_row}
 use Rattle.table_store.specs.Table.{TableOf, keys_of, HasCells, mismatch_from, rows_from}
 use Rattle.table_store.specs.Fault.{TableCause, file_missing, file_too_large, bad_text, bad_header, bad_cell, key_null, key_twice, LoadCause, no_metadata, bad_meta, bad_table}
 use Rattle.table_store.specs.Catalog.{FolderOf, CatalogOf, HasTable, HasTableCause, HaveTables, IsFirstBadTable, Means, IsRefused, schemas_in}

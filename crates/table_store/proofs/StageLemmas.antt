@@ -5,12 +5,12 @@ use Rattle.std.proofs.lemmas.Option.{IfSome_then}
 use Rattle.csv_grammar.specs.Raw.{RawField}
 use Rattle.csv_index.specs.Indexing.{IndexingOf}
 use Rattle.csvw_meta.specs.Schema.{schema_view, SchemaOf}
-use Rattle.raw_fields.specs.Values.{rows_in}
-use Rattle.row_keys.specs.Key.{row_keys}
-use Rattle.row_keys.specs.Keys.{typed_keys}
-use Rattle.row_keys.specs.Reading.{keys_left}
-use Rattle.row_keys.specs.declared.reading.KeysReading.{KeysReading}
-use Rattle.typed_columns.specs.TypedColumn.{AreTyped, ColumnCells}
+use Rattle.csv_fields.specs.Values.{rows_in}
+use Rattle.key_index.specs.Key.{key_index}
+use Rattle.key_index.specs.Keys.{typed_keys}
+use Rattle.key_index.specs.Reading.{keys_left}
+use Rattle.key_index.specs.declared.reading.KeysReading.{KeysReading}
+use Rattle.column_blocks.specs.TypedColumn.{AreTyped, ColumnCells}
 use Rattle.table_store.specs.declared.reading.Stage.{Stage}
 use Rattle.table_store.specs.declared.reading.Stage.TheVariants as stages
 use Rattle.table_store.specs.declared.reading.StageStep.{StageStep}
@@ -32,7 +32,7 @@ pub keys_read : (schema : SchemaOf) (raws : List (List RawField)) (n : ℕ) (typ
     → typed_keys schema.key typed n ≡ keys_at schema raws
 keys_read schema raws n typed count wide are =
     typed-keys schema.key typed n
-    ∙ ap (row_keys schema.key)
+    ∙ ap (key_index schema.key)
     (typed-rows schema.columns (rows_in schema.columns raws) typed n (count ∙ sym (length-rows_in schema.columns raws)) (rows-wide schema.columns raws wide) are)
 
 -- what is wrong with a file is what is wrong with its table

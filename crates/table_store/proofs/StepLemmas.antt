@@ -3,7 +3,7 @@ use Rattle.std.proofs.Common.{◌≡◌, ℕ, ◌*◌, ◌-◌, ◌<◌, ◌≤�
 use Rattle.std.proofs.lemmas.List.{length-take-le, take-take}
 use Rattle.cell_types.specs.Column.{ColumnOf}
 use Rattle.csv_grammar.specs.Raw.{RawField, RawTable}
-use Rattle.typed_columns.specs.TypedColumn.{AreWholeBlocks, ColumnCells}
+use Rattle.column_blocks.specs.TypedColumn.{AreWholeBlocks, ColumnCells}
 use Rattle.table_store.specs.declared.loading.BadCell.{BadCell}
 use Rattle.table_store.specs.declared.stretches.RowsReading.{RowsReading}
 use Rattle.table_store.specs.Steps.{ReadsRows}

@@ -8,8 +8,8 @@ use Rattle.cell_types.specs.declared.fault.CellFault.TheVariants.{NoMemory}
 use Rattle.cell_types.specs.Column.{ColumnOf}
 use Rattle.cell_types.specs.Value.{CellValue, null}
 use Rattle.csv_grammar.specs.Raw.{RawField, RawTable}
-use Rattle.raw_fields.specs.Values.{rows_in, values_in, FitsColumns}
-use Rattle.typed_columns.specs.TypedColumn.{typed_cells, AreTyped, AreWholeBlocks, ColumnCells}
+use Rattle.csv_fields.specs.Values.{rows_in, values_in, FitsColumns}
+use Rattle.column_blocks.specs.TypedColumn.{typed_cells, AreTyped, AreWholeBlocks, ColumnCells}
 use Rattle.table_store.specs.declared.loading.BadCell.{BadCell}
 use Rattle.table_store.specs.Parts.{wrong_of, IsFirstBadIn}
 use Rattle.table_store.specs.Stretches.{AreAppended, AreOfColumns, HasColumns, IsReadBefore, IsReadFrom, Join}

@@ -9,7 +9,7 @@ use Rattle.cell_types.specs.Value.{CellValue}
 use Rattle.table_store.specs.Block.{block_count, block_of}
 use Rattle.table_store.specs.Summaries.{cells_by_column, AreRangesAt, AreRangesByBlock, AreSummariesOf, IsSummaryOf}
 use Rattle.table_store.specs.Table.{TableOf}
-use Rattle.typed_columns.specs.TypedColumn.{AreTyped, ColumnCells}
+use Rattle.column_blocks.specs.TypedColumn.{AreTyped, ColumnCells}
 use Rattle.table_store.proofs.BlockLemmas.{column_of-part}
 use Rattle.table_store.proofs.ColumnLemmas.{cells_by_column-at}
 

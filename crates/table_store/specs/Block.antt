@@ -9,7 +9,7 @@ use Rattle.cell_types.specs.Value.{CellValue}
 use Rattle.block_summary.specs.declared.block.TheConstants.{BLOCK_ROWS}
 use Rattle.table_store.specs.declared.block.Block.TheInside.{Inside}
 use Rattle.table_store.specs.Table.{TableOf}
-use Rattle.typed_columns.specs.TypedColumn.{typed_cells, ColumnCells}
+use Rattle.column_blocks.specs.TypedColumn.{typed_cells, ColumnCells}
 
 -- some of the rows of a table
 abbrev pub part : TableOf → ℕ → ℕ → TableOf

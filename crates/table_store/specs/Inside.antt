@@ -4,8 +4,8 @@ use Rattle.cell_types.specs.Value.{CellValue, null}
 use Rattle.csvw_meta.specs.Schema.{SchemaOf, schema_view}
 use Rattle.table_store.specs.declared.table.Table.TheInside.{Inside}
 use Rattle.table_store.specs.Table.{TableOf, keys_of}
-use Rattle.typed_columns.specs.TypedColumn.{AreTyped, ColumnCells}
-use Rattle.row_keys.specs.Keys.{AreColumns, AreKeysOf}
+use Rattle.column_blocks.specs.TypedColumn.{AreTyped, ColumnCells}
+use Rattle.key_index.specs.Keys.{AreColumns, AreKeysOf}
 use Rattle.table_store.specs.Fits.{HasTableRows}
 use Rattle.table_store.specs.Summaries.{cells_by_column, AreSummariesOf}
 

@@ -6,7 +6,7 @@ use Rattle.cell_types.specs.declared.fault.CellFault.{CellFault}
 use Rattle.cell_types.specs.Value.{CellValue}
 use Rattle.cell_types.specs.Column.{ColumnOf}
 use Rattle.cell_types.specs.Cell.{value_of}
-use Rattle.row_keys.specs.Laws.{AreKeys}
+use Rattle.key_index.specs.Laws.{AreKeys}
 use Rattle.table_store.specs.Table.{TableOf, is_called, keys_of, mismatch_from, rows_from}
 use Rattle.table_store.specs.Fault.{LoadCause}
 use Rattle.table_store.specs.Catalog.{FolderOf, CatalogOf, schemas_in, Means, IsRefused}

@@ -18,14 +18,14 @@ use Rattle.table_store.specs.declared.loading.TableFault.TheVariants.{FileMissin
 use Rattle.table_store.specs.Table.{TableOf, mismatch_from, rows_from, HasOtherHeader, HasBadCell, HasNullKey, HasKeyTwice}
 use Rattle.table_store.specs.Fault.{TableCause, file_missing, file_too_large, bad_text, bad_header, bad_cell, key_null, key_twice, cell_cause, LoadCause, no_metadata, bad_meta, bad_table}
 use Rattle.table_store.specs.File.{FileOf}
-use Rattle.row_keys.specs.Key.{row_keys, null_row, repeated_row}
-use Rattle.row_keys.specs.Keys.{AreColumns, AreKeysOf}
-use Rattle.row_keys.specs.declared.keys.KeyFault.{KeyFault}
-use Rattle.row_keys.specs.declared.reading.KeyedRows.{KeyedRows}
-use Rattle.row_keys.specs.declared.keys.KeyFault.TheVariants.{Null, Twice}
-use Rattle.typed_columns.specs.TypedColumn.{AreTyped}
+use Rattle.key_index.specs.Key.{key_index, null_row, repeated_row}
+use Rattle.key_index.specs.Keys.{AreColumns, AreKeysOf}
+use Rattle.key_index.specs.declared.keys.KeyFault.{KeyFault}
+use Rattle.key_index.specs.declared.reading.KeyedRows.{KeyedRows}
+use Rattle.key_index.specs.declared.keys.KeyFault.TheVariants.{Null, Twice}
+use Rattle.column_blocks.specs.TypedColumn.{AreTyped}
 use Rattle.table_store.specs.Catalog.{HasFile, HasTableCause, IsFirstBadTable}
-use Rattle.raw_fields.specs.Values.{rows_in, AllHaveValues, FitsColumns}
+use Rattle.csv_fields.specs.Values.{rows_in, AllHaveValues, FitsColumns}
 
 -- the first header cell that does not match, or lacks its column, or is lacked by one
 abbrev pub mismatch_of : List ColumnOf → List RawField → Option ℕ
@@ -64,7 +64,7 @@ table_cause NoMemory = None
 
 -- the keys of rows of fields
 abbrev pub keys_at : SchemaOf → List (List RawField) → List (List CellValue)
-keys_at schema rows = row_keys schema.key (rows_in schema.columns rows)
+keys_at schema rows = key_index schema.key (rows_in schema.columns rows)
 
 -- so many rows of fields were read, with these columns and keys
 pub record ArePartsOf (schema : SchemaOf) (rows : List (List RawField)) (parts : KeyedRows) : Type 0 where

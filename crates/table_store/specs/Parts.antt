@@ -7,8 +7,8 @@ use Rattle.cell_types.specs.declared.column.Column.{Column}
 use Rattle.cell_types.specs.Column.{column_view, ColumnOf}
 use Rattle.block_summary.specs.Reading.{packed_type_of}
 use Rattle.csv_grammar.specs.Raw.{RawField, field_of}
-use Rattle.typed_columns.specs.ColumnReader.{ReaderOf, with_cells}
-use Rattle.typed_columns.specs.Parts.{part_cells, PartHasValues}
+use Rattle.column_blocks.specs.ColumnReader.{ReaderOf, with_cells}
+use Rattle.column_blocks.specs.Parts.{part_cells, PartHasValues}
 use Rattle.table_store.specs.declared.loading.BadCell.{BadCell}
 use Rattle.table_store.specs.Table.{rows_from, values_from}
 

@@ -7,11 +7,11 @@ use Rattle.csv_index.specs.Index.{IsRawTable}
 use Rattle.csv_index.specs.Indexing.{IndexingOf}
 use Rattle.csvw_meta.specs.Laws.{HasShortDefaults}
 use Rattle.csvw_meta.specs.Schema.{SchemaOf, schema_view}
-use Rattle.raw_fields.specs.Values.{FitsColumns}
-use Rattle.row_keys.specs.declared.reading.KeysReading.{KeysReading}
-use Rattle.row_keys.specs.declared.reading.KeyedRows.{KeyedRows}
-use Rattle.row_keys.specs.Reading.{keys_left, AreHeld}
-use Rattle.typed_columns.specs.TypedColumn.{AreWholeBlocks, ColumnCells}
+use Rattle.csv_fields.specs.Values.{FitsColumns}
+use Rattle.key_index.specs.declared.reading.KeysReading.{KeysReading}
+use Rattle.key_index.specs.declared.reading.KeyedRows.{KeyedRows}
+use Rattle.key_index.specs.Reading.{keys_left, AreHeld}
+use Rattle.column_blocks.specs.TypedColumn.{AreWholeBlocks, ColumnCells}
 use Rattle.table_store.specs.declared.reading.Stage.{Stage}
 use Rattle.table_store.specs.declared.reading.Stage.TheVariants as stages
 use Rattle.table_store.specs.declared.reading.StageStep.{StageStep}

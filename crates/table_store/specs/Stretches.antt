@@ -3,8 +3,8 @@ use Rattle.std.specs.Prelude.{◌≡◌, ℕ, ◌+◌, List, ◌++◌, length, N
 use Rattle.block_summary.specs.Reading.{packed_type_of}
 use Rattle.cell_types.specs.Column.{ColumnOf}
 use Rattle.csv_grammar.specs.Raw.{RawField}
-use Rattle.raw_fields.specs.Values.{rows_in}
-use Rattle.typed_columns.specs.TypedColumn.{AreTyped, AreWholeBlocks, ColumnCells}
+use Rattle.csv_fields.specs.Values.{rows_in}
+use Rattle.column_blocks.specs.TypedColumn.{AreTyped, AreWholeBlocks, ColumnCells}
 use Rattle.table_store.specs.declared.loading.BadCell.{BadCell}
 use Rattle.table_store.specs.Parts.{wrong_of, IsFirstBadIn}
 

@@ -5,7 +5,7 @@ use Rattle.block_summary.specs.Ranges.{RangeOf, no_range, AreRangesOf, IsRangeOf
 use Rattle.cell_types.specs.Value.{CellValue}
 use Rattle.table_store.specs.Block.{block_count, block_of}
 use Rattle.table_store.specs.Table.{TableOf}
-use Rattle.typed_columns.specs.TypedColumn.{ColumnCells}
+use Rattle.column_blocks.specs.TypedColumn.{ColumnCells}
 
 -- the range of each column of a block
 pub record IsSummaryOf (block : TableOf) (ranges : List RangeOf) : Type 0 where

@@ -9,7 +9,7 @@ use Rattle.cell_types.specs.Value.{CellValue}
 use Rattle.cell_types.specs.Column.{ColumnOf}
 use Rattle.cell_types.specs.Cell.{value_of}
 use Rattle.csvw_meta.specs.Schema.{SchemaOf}
-use Rattle.row_keys.specs.Key.{row_keys, null_row, repeated_row}
+use Rattle.key_index.specs.Key.{key_index, null_row, repeated_row}
 
 -- a schema, and the rows of values in order
 pub record TableOf : Type 0 where
@@ -63,7 +63,7 @@ pub record HasCells (schema : SchemaOf) (bytes : List ℕ) (table : TableOf) : T
 
 -- the keys of the rows of a table
 abbrev pub keys_of : TableOf → List (List CellValue)
-keys_of table = row_keys table.schema.key table.rows
+keys_of table = key_index table.schema.key table.rows
 
 -- the file is the table of that schema: its keys have no null, and no row has that of an earlier one
 pub record IsAnnotated (schema : SchemaOf) (bytes : List ℕ) (table : TableOf) : Type 0 where

@@ -18,7 +18,7 @@ use csvw_meta::Schema;
 use std::alloc::{AllocError, Global};
 use std::marker::Model;
 use text_columns::TextColumn;
-use typed_columns::BlockCells;
+use column_blocks::BlockCells;
 
 /// The rows of one block of a table.
 #[derive(Drop)]

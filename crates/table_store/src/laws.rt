@@ -30,7 +30,7 @@ pub fn schemas_of_tables()
 pub fn keys_of_tables()
     ensures { KeysOfTables }
 {
-    row_keys::keys_find_rows();
+    key_index::keys_find_rows();
 }
 
 /// States headers, rows, keys and files with what is found in them, worked out by hand.

@@ -5,7 +5,7 @@ ghost use Rattle.table_store.specs.Loading.{table_cause};
 
 use cell_types::CellFault;
 use csv_index::TextFault;
-use row_keys::KeyFault;
+use key_index::KeyFault;
 
 /// A cell that has no value. Rows and columns count from 0.
 #[derive(Clone, Copy)]

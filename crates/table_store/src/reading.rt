@@ -3,7 +3,7 @@
 ghost use Rattle.std.specs.Prelude.{◌≡◌, ◌≤◌, ◌^◌, ◌+◌, ◌*◌, ℕ, List, Option, None, IfOk, IfErr, IfSome, length};
 ghost use Rattle.csv_grammar.specs.Raw.{RawField};
 ghost use Rattle.csvw_meta.specs.Schema.{schema_view, SchemaOf};
-ghost use Rattle.row_keys.specs.Reading.{keys_left};
+ghost use Rattle.key_index.specs.Reading.{keys_left};
 ghost use Rattle.table_store.specs.Catalog.{HasFile, HasTableCause};
 ghost use Rattle.table_store.specs.File.{file_bytes};
 ghost use Rattle.table_store.specs.Loading.{table_cause, HasFileCause, HasKeyColumns, HasRowsCause};
@@ -14,7 +14,7 @@ use crate::loading::{TableFault, fault_of};
 use crate::stretches::RowsReading;
 use csv_index::{Indexed, Indexing, TextFault};
 use csvw_meta::Schema;
-use row_keys::{KeyStep, KeyedRows, KeysReading};
+use key_index::{KeyStep, KeyedRows, KeysReading};
 use std::alloc::Global;
 
 /// How far the file of a table is read.

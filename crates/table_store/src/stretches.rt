@@ -3,11 +3,11 @@
 ghost use Rattle.std.specs.Prelude.{◌≡◌, ◌<◌, ◌≤◌, ◌-◌, List, IfOk, IfErr, drop, length, map};
 ghost use Rattle.cell_types.specs.Column.{column_view};
 ghost use Rattle.csv_grammar.specs.Raw.{RawField};
-ghost use Rattle.raw_fields.specs.Values.{FitsColumns};
+ghost use Rattle.csv_fields.specs.Values.{FitsColumns};
 ghost use Rattle.table_store.specs.Stretches.{AreAppended, AreOfColumns, HasColumns, IsReadBefore, IsReadFrom, Join};
 ghost use Rattle.table_store.specs.Parts.{IsFirstBadIn};
 ghost use Rattle.table_store.specs.Steps.{GivesBadCell, GivesColumns, IsReadingRows, ReadsRows};
-ghost use Rattle.typed_columns.specs.TypedColumn.{AreWholeBlocks};
+ghost use Rattle.column_blocks.specs.TypedColumn.{AreWholeBlocks};
 
 use crate::loading::BadCell;
 use crate::parts::read_part;
@@ -15,7 +15,7 @@ use block_summary::BLOCK_ROWS;
 use cell_types::{CellFault, Column};
 use csv_index::IndexedText;
 use std::alloc::Global;
-use typed_columns::{TypedColumn, column_readers, columns_read};
+use column_blocks::{TypedColumn, column_readers, columns_read};
 
 /// How many rows a stretch has: those of a block, which are read in about a millisecond.
 const STRETCH: usize = BLOCK_ROWS;

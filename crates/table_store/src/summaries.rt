@@ -5,7 +5,7 @@ ghost use Rattle.table_store.specs.Summaries.{AreRangesAt, AreRangesByBlock};
 
 use block_summary::{BLOCK_ROWS, Summary};
 use std::alloc::{AllocError, Global};
-use typed_columns::TypedColumn;
+use column_blocks::TypedColumn;
 
 /// Returns the summary of the block of a number: the range of each column.
 fn summary_at(alloc: Global, columns: &[TypedColumn], number: usize) -> Result<Summary, AllocError>

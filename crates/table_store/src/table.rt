@@ -7,7 +7,7 @@ ghost use Rattle.csvw_meta.specs.Schema.{schema_view};
 ghost use Rattle.csvw_meta.specs.Laws.{HasShortDefaults};
 ghost use Rattle.table_store.specs.Fits.{HasTableRows};
 ghost use Rattle.table_store.specs.Fault.{bad_table, load_cause};
-ghost use Rattle.row_keys.specs.Key.{row_of};
+ghost use Rattle.key_index.specs.Key.{row_of};
 ghost use Rattle.table_store.specs.Loading.{table_cause, HasKeyColumns};
 ghost use Rattle.table_store.specs.Steps.{IsReadWhole, IsTableOfRows};
 ghost use Rattle.table_store.specs.Summaries.{AreSummariesOf};
@@ -19,11 +19,11 @@ use crate::summaries::summaries_of;
 use block_summary::{BLOCK_ROWS, PackedColumn, Summary};
 use cell_types::Value;
 use csvw_meta::Schema;
-use row_keys::{KeyFault, KeyedRows, Keys};
+use key_index::{KeyFault, KeyedRows, Keys};
 use std::alloc::{AllocError, Global};
 use std::marker::Model;
 use text_columns::TextColumn;
-use typed_columns::{BlockCells, TypedColumn};
+use column_blocks::{BlockCells, TypedColumn};
 
 /// A table: the cells of each of its columns, by blocks of rows. Nothing of its file is kept beside them.
 #[derive(Drop)]

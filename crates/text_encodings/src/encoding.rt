@@ -2,7 +2,7 @@
 ghost use Rattle.std.specs.Prelude.{◌≡◌, ◌++◌, IfOk, string_bytes};
 ghost use Rattle.text_encodings.specs.Encodings.{IsTextIn, IsUtf16, utf16_mark};
 
-use crate::utf16::{Order, units_of};
+use crate::utf16::{ByteOrder, units_of};
 use crate::windows_1252::windows_1252_text;
 use std::alloc::{AllocError, Global};
 use std::str::from_utf8;
@@ -45,7 +45,7 @@ pub struct Decoded {
 }
 
 /// Returns the text of bytes after a byte order mark of UTF-16.
-fn utf16_text(alloc: Global, order: Order, bytes: &[u8]) -> Result<String, EncodingFault>
+fn utf16_text(alloc: Global, order: ByteOrder, bytes: &[u8]) -> Result<String, EncodingFault>
     ensures { IfOk result (λ text. IsUtf16 order (utf16_mark order ++ bytes.now)
         (string_bytes text)) }
 {
@@ -97,11 +97,11 @@ pub fn text_of(alloc: Global, bytes: &[u8]) -> Result<Decoded, EncodingFault>
     match bytes {
         [0xFF, 0xFE, rest @ ..] => Ok(Decoded {
             encoding: Encoding::Utf16Little,
-            text: utf16_text(alloc, Order::Little, rest)?,
+            text: utf16_text(alloc, ByteOrder::Little, rest)?,
         }),
         [0xFE, 0xFF, rest @ ..] => Ok(Decoded {
             encoding: Encoding::Utf16Big,
-            text: utf16_text(alloc, Order::Big, rest)?,
+            text: utf16_text(alloc, ByteOrder::Big, rest)?,
         }),
         _ => marked_text(alloc, bytes),
     }

@@ -9,5 +9,5 @@ mod windows_1252;
 
 pub use encoding::{Decoded, Encoding, EncodingFault, text_of};
 pub use laws::worked_encodings;
-pub use utf16::Order;
+pub use utf16::ByteOrder;
 pub use windows_1252::char_of;

@@ -6,7 +6,7 @@ use std::alloc::{AllocError, Global};
 
 /// Which byte of a unit comes first.
 #[derive(Clone, Copy)]
-pub enum Order {
+pub enum ByteOrder {
     /// The less significant one.
     Little,
     /// The more significant one.
@@ -14,19 +14,19 @@ pub enum Order {
 }
 
 /// Returns the unit of two bytes.
-fn unit(order: Order, first: u8, second: u8) -> u16
+fn unit(order: ByteOrder, first: u8, second: u8) -> u16
     ensures { result ≡ unit_of order first second }
 {
     match order {
-        Order::Little => u16::from(first) + 256 * u16::from(second),
-        Order::Big => 256 * u16::from(first) + u16::from(second),
+        ByteOrder::Little => u16::from(first) + 256 * u16::from(second),
+        ByteOrder::Big => 256 * u16::from(first) + u16::from(second),
     }
 }
 
 /// Returns the units that bytes are; `None` if there is an odd number of bytes.
 pub(crate) fn units_of(
     alloc: Global,
-    order: Order,
+    order: ByteOrder,
     bytes: &[u8],
 ) -> Result<Option<Vec<u16>>, AllocError>
     ensures { IfOk result (λ units. IfSome units (λ units. AreUnits order bytes.now units.items)) }

@@ -6,8 +6,8 @@ use Rattle.std.specs.Str.{bytes_eq}
 use Rattle.cell_types.specs.Date.{date_text, is_date}
 use Rattle.cell_types.specs.declared.datatype.DateForm.TheVariants.{YearMonthDay}
 use Rattle.value_forms.specs.declared.date.DayForm.{DayForm}
-use Rattle.value_forms.specs.declared.date.Order.{Order}
-use Rattle.value_forms.specs.declared.date.Order.TheVariants.{YearFirst, DayFirst, MonthFirst}
+use Rattle.value_forms.specs.declared.date.DateOrder.{DateOrder}
+use Rattle.value_forms.specs.declared.date.DateOrder.TheVariants.{YearFirst, DayFirst, MonthFirst}
 use Rattle.value_forms.specs.Numbers.{before_end}
 
 -- the number of a day or a month: one digit, or two
@@ -67,17 +67,17 @@ has_parts separator text =
     list_any (λ byte. byte == separator) text && list_any (λ byte. byte == separator) (after_separator separator text)
 
 -- the parts of a date, by which one comes first
-abbrev pub year_among : Order → List ℕ → List ℕ → List ℕ → List ℕ
+abbrev pub year_among : DateOrder → List ℕ → List ℕ → List ℕ → List ℕ
 year_among YearFirst first second third = first
 year_among DayFirst first second third = third
 year_among MonthFirst first second third = third
 
-abbrev pub month_among : Order → List ℕ → List ℕ → List ℕ → List ℕ
+abbrev pub month_among : DateOrder → List ℕ → List ℕ → List ℕ → List ℕ
 month_among YearFirst first second third = second
 month_among DayFirst first second third = second
 month_among MonthFirst first second third = first
 
-abbrev pub day_among : Order → List ℕ → List ℕ → List ℕ → List ℕ
+abbrev pub day_among : DateOrder → List ℕ → List ℕ → List ℕ → List ℕ
 day_among YearFirst first second third = third
 day_among DayFirst first second third = first
 day_among MonthFirst first second third = second

@@ -4,7 +4,7 @@ use Rattle.cell_types.specs.Date.{date_of}
 use Rattle.cell_types.specs.Decimal.{decimal_of}
 use Rattle.cell_types.specs.Value.{date, decimal}
 use Rattle.cell_types.specs.declared.datatype.DateForm.TheVariants.{YearMonthDay}
-use Rattle.value_forms.specs.declared.date.Order.TheVariants.{YearFirst, DayFirst, MonthFirst}
+use Rattle.value_forms.specs.declared.date.DateOrder.TheVariants.{YearFirst, DayFirst, MonthFirst}
 use Rattle.value_forms.specs.declared.number.Marks.{Marks}
 use Rattle.value_forms.specs.Dates.{form_day}
 use Rattle.value_forms.specs.Forms.{alone_made, timed_day}

@@ -11,7 +11,7 @@ use std::alloc::{AllocError, Global};
 
 /// Which part of a date comes first.
 #[derive(Clone, Copy, PartialEq, Eq)]
-pub enum Order {
+pub enum DateOrder {
     /// The year, the month, the day.
     YearFirst,
     /// The day, the month, the year.
@@ -23,7 +23,7 @@ pub enum Order {
 /// How days are written: the order of the parts, the byte between them, and whether the month is a name.
 #[derive(Clone, Copy, PartialEq, Eq)]
 pub struct DayForm {
-    pub order: Order,
+    pub order: DateOrder,
     pub separator: u8,
     pub is_named: bool,
 }
@@ -178,7 +178,7 @@ fn day_of(
 
 /// Returns the year, the month and the day among three parts of a date.
 fn in_order<'a>(
-    order: Order,
+    order: DateOrder,
     first: &'a [u8],
     second: &'a [u8],
     third: &'a [u8],
@@ -188,9 +188,9 @@ fn in_order<'a>(
     ensures day { result.2.now ≡ day_among order first.now second.now third.now }
 {
     match order {
-        Order::YearFirst => (first, second, third),
-        Order::DayFirst => (third, second, first),
-        Order::MonthFirst => (third, first, second),
+        DateOrder::YearFirst => (first, second, third),
+        DateOrder::DayFirst => (third, second, first),
+        DateOrder::MonthFirst => (third, first, second),
     }
 }
 

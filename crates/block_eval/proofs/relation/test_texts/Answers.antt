@@ -1,6 +1,6 @@
 use Rattle.typed_trees.specs.TypedTree.{text_view}
 use Rattle.row_eval.specs.Outcome.{text_outcome}
-use Rattle.text_lanes.specs.declared.relation.TextRelation.TheVariants.{Test}
+use Rattle.text_kernels.specs.declared.relation.TextRelation.TheVariants.{Test}
 use Rattle.block_eval.proofs.TextLemmas.{related-gives}
 use Rattle.block_eval.proofs.relation.test_texts.Goals as goal
 

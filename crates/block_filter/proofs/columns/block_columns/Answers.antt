@@ -1,5 +1,5 @@
 use Rattle.std.proofs.Common.{◌+◌, List, subst, sym}
-use Rattle.block_eval.specs.declared.columns.Column.{Column}
+use Rattle.block_eval.specs.declared.columns.BlockColumn.{BlockColumn}
 use Rattle.block_filter.proofs.LaneLemmas.{columns_are, one_column_more, AreFirstColumns}
 use Rattle.block_filter.proofs.columns.block_columns.Goals as goal
 
@@ -7,7 +7,7 @@ pub loop-col-preserved : goal.loop-col-preserved
 loop-col-preserved c =
     let rows = c.args.block.now.rows in
     let col = c.loop-col.col in
-    subst (λ columns. AreFirstColumns rows columns (col + 1)) (sym {A = List Column} c.in_ok-push.ensures.items)
+    subst (λ columns. AreFirstColumns rows columns (col + 1)) (sym {A = List BlockColumn} c.in_ok-push.ensures.items)
     (one_column_more rows c.loop-col.columns.items col c.in-Some.column c.in-Some.ensures c.loop-col.invariant)
 
 pub returns : goal.returns

@@ -4,7 +4,7 @@ use Rattle.std.specs.Int.{w128}
 use Rattle.std.specs.List.{count_by}
 use Rattle.std.specs.Option.{is_none}
 use Rattle.std.proofs.lemmas.Int.{ints, to_z-of_z}
-use Rattle.offset_lanes.specs.OffsetList.{offset_list}
+use Rattle.frame_of_reference.specs.OffsetList.{offset_list}
 use Rattle.block_summary.specs.Sums.{number_sum}
 use Rattle.block_summary.proofs.CellLemmas.{marks_long, nulls_counted, offsets_below, packed}
 use Rattle.block_summary.proofs.integers.kept.Goals as goal

@@ -1,7 +1,7 @@
 use Rattle.std.proofs.Common.{◌≡◌, ◌∙◌, List, [], ℕ, ◌<◌, ◌||◌, Bool, arith, false, get_or, ap, sym}
 use Rattle.std.specs.Str.{bytes_eq}
 use Rattle.std.proofs.lemmas.List.Folds.{list_any_more}
-use Rattle.column_forms.specs.Seen.{null_texts}
+use Rattle.column_forms.specs.CellsSeen.{null_texts}
 use Rattle.column_forms.proofs.seen.null_place.Goals as goal
 
 pub loop-place-preserved : goal.loop-place-preserved

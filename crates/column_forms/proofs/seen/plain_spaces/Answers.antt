@@ -1,5 +1,5 @@
 use Rattle.std.proofs.Common.{◌≡◌, ℕ, List, [], ◌∷◌, ◌++◌, append_assoc, append-nil, subst, sym}
-use Rattle.column_forms.specs.Seen.{HasPlainSpaces, no_byte, next_byte}
+use Rattle.column_forms.specs.CellsSeen.{HasPlainSpaces, no_byte, next_byte}
 use Rattle.column_forms.proofs.seen.plain_spaces.Goals as goal
 
 pub loop-byte-preserved : goal.loop-byte-preserved

@@ -1,5 +1,5 @@
 use Rattle.std.proofs.Common.{ℕ, List, ◌++◌, length}
-use Rattle.column_forms.specs.Seen.{HasPlainSpaces}
+use Rattle.column_forms.specs.CellsSeen.{HasPlainSpaces}
 use Rattle.column_forms.proofs.seen.plain_spaces.Given as goal
 
 -- what is made, and what is made of the rest, is the cell with plain spaces

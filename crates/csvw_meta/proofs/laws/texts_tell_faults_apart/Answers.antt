@@ -5,8 +5,8 @@ use Rattle.std.specs.Str.{NoCharPasses, NonePass, bytes_eq, encode_utf8_all}
 use Rattle.std.proofs.lemmas.Bool.{false≢true}
 use Rattle.std.proofs.lemmas.Slice.Eq.{bytes_eq-Decides}
 use Rattle.std.proofs.lemmas.Str.{IsUtf8-string_bytes, NoCharPasses-append}
-use Rattle.message_text.specs.Escapes.{is_control, escaped}
-use Rattle.message_text.specs.Laws.{EscapedTextsAreOneLine, TextsStayApart}
+use Rattle.text_escapes.specs.Escapes.{is_control, escaped}
+use Rattle.text_escapes.specs.Laws.{EscapedTextsAreOneLine, TextsStayApart}
 use Rattle.csvw_meta.specs.declared.fault.MetaFault.{MetaFault}
 use Rattle.csvw_meta.specs.declared.fault.MetaFault.TheVariants.{Unsupported}
 use Rattle.csvw_meta.specs.Fault.{fault_cause, meta_fault_text, meta_fault_name}

@@ -1,10 +1,10 @@
 use Rattle.std.proofs.Common.{◌≡◌, ℕ, List, ap, codes, inl, inr, refl}
-use Rattle.message_text.specs.Laws.{IsOneLine}
+use Rattle.text_escapes.specs.Laws.{IsOneLine}
 use Rattle.event_scripts.specs.Answers.{line_of}
 use Rattle.event_scripts.specs.Command as command
-use Rattle.program_ends.specs.declared.fault.ProgramFault.TheVariants.{Folder}
-use Rattle.program_ends.specs.Laws.{FaultsAreOneLine}
-use Rattle.program_ends.specs.Text.{fault_text}
+use Rattle.exit_statuses.specs.declared.fault.ProgramFault.TheVariants.{Folder}
+use Rattle.exit_statuses.specs.Laws.{FaultsAreOneLine}
+use Rattle.exit_statuses.specs.Text.{fault_text}
 use Rattle.hub_scripts.specs.Replay.{Comes, Outcome, Stage, outcome_line}
 use Rattle.hub_scripts.proofs.replay.reloads_are_one_line.Goals as goal
 

@@ -1,7 +1,7 @@
 use Rattle.std.proofs.Common.{map, refl, string_bytes, sym, ap, ◌∙◌}
 use Rattle.std.specs.Option.{ok_or}
 use Rattle.odata_url.specs.Target.{option_view}
-use Rattle.reply_codes.specs.declared.code.Code.TheVariants.{NotAcceptable}
+use Rattle.odata_errors.specs.declared.code.Code.TheVariants.{NotAcceptable}
 use Rattle.odata_request.specs.declared.fault.RequestFault.TheVariants.{Refused}
 use Rattle.odata_request.specs.Reading.{goes_on, stops, passes_unless}
 use Rattle.odata_request.specs.Request.{AsksPath, request_view}

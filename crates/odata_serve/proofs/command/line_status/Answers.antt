@@ -1,7 +1,7 @@
 use Rattle.std.proofs.Common.{inr, subst}
 use Rattle.odata_serve.specs.declared.words.Words.{Words}
 use Rattle.odata_serve.specs.Words.{AreWords}
-use Rattle.command_words.specs.Words.{texts}
+use Rattle.cli_args.specs.Words.{texts}
 use Rattle.odata_serve.proofs.command.line_status.Goals as goal
 
 pub returns-in-Ok-Replay-clause-taken : goal.returns-in-Ok-Replay-clause-taken

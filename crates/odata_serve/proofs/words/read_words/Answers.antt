@@ -1,7 +1,7 @@
 use Rattle.std.proofs.Common.{◌∙◌, subst, sym, List, Option}
 use Rattle.clap.specs.Words.{Row, Text, app_of}
 use Rattle.odata_serve.specs.Words.{SaysWords}
-use Rattle.command_words.specs.Words.{texts}
+use Rattle.cli_args.specs.Words.{texts}
 use Rattle.odata_serve.proofs.Readings.{fault_at, free_at, reading_at, simple_at, some_kind}
 use Rattle.odata_serve.proofs.TakenWords.{taken_asks}
 use Rattle.odata_serve.proofs.words.read_words.Goals as goal

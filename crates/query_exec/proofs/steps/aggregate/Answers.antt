@@ -3,10 +3,10 @@ use Rattle.std.specs.Prelude.{IfOk}
 use Rattle.std.specs.List.{All}
 use Rattle.std.proofs.lemmas.List.{length-map}
 use Rattle.odata_query.specs.Aggregate.{named_view, NamedAggregateOf}
-use Rattle.row_groups.specs.Gathered.{gathered_rows, lent_places}
+use Rattle.aggregate_rows.specs.Gathered.{gathered_rows, lent_places}
 use Rattle.query_plan.specs.Fitting.{IsFitNode}
 use Rattle.query_plan.specs.Plan.{node_names, node_result}
-use Rattle.row_groups.specs.Tallies.{FitsAll}
+use Rattle.aggregate_rows.specs.Tallies.{FitsAll}
 use Rattle.cell_types.proofs.CaseLaws.{IfOk-both}
 use Rattle.query_exec.specs.Intermediate.{aggregate_node, Makes}
 use Rattle.query_exec.proofs.AggregateLemmas.{aggregate_makes, aggregates_fit, lent_fit, names_as_wide}

@@ -14,7 +14,7 @@ loop-col-preserved c =
     let wide = c.rows_are_wide.ensures c.args.row [] c.requires in
     item_fits csv_value (get_or rows c.args.row []) value (length c.args.columns.now.kinds + 2) c.loop-col.col c.loop-col.room c.csv_cell_room.result _ (length (csv_value value))
     (omega (arith, c.loop-col-test.true, c.width-col-end.ensures, wide)) c.loop-col.invariant
-    (ap (λ v. length (csv_value v)) (value_in_lent rows c.args.row c.loop-col.col c.lent_row-values.result value value c.requires c.lent_row-values.ensures.row c.cell.ensures))
+    (ap (λ v. length (csv_value v)) (value_in_lent rows c.args.row c.loop-col.col c.row_ref-values.result value value c.requires c.row_ref-values.ensures.row c.cell.ensures))
     c.csv_cell_room.ensures c.saturating_add-room-in-loop-col.ensures
 
 pub returns : goal.returns

@@ -13,7 +13,7 @@ loop-col-preserved c =
     let value = cell_view c.cell.result in
     let wide = c.rows_are_wide.ensures c.args.row [] c.requires in
     item_told csv_value (get_or rows c.args.row []) value c.loop-col.col c.loop-col.size _ (length (csv_value value)) (omega (arith, c.loop-col-test.true, c.width-col-end.ensures, wide)) c.loop-col.invariant
-    (ap (λ v. length (csv_value v)) (value_in_lent rows c.args.row c.loop-col.col c.lent_row-values.result value value c.requires c.lent_row-values.ensures.row c.cell.ensures)) (told_one _ _ _ _ c.csv_cell_size.ensures c.saturating_add-size.ensures)
+    (ap (λ v. length (csv_value v)) (value_in_lent rows c.args.row c.loop-col.col c.row_ref-values.result value value c.requires c.row_ref-values.ensures.row c.cell.ensures)) (told_one _ _ _ _ c.csv_cell_size.ensures c.saturating_add-size.ensures)
 
 pub returns : goal.returns
 returns c =

@@ -15,7 +15,7 @@ loop-col-preserved c =
     let wide = row_width rows.rows c.args.row c.width-col-end.result c.width-col-end.ensures.rows c.requires.row in
     item_fits json_value (get_or rows.rows c.args.row []) value (c.args.frame + 1) col c.loop-col.room c.json_cell_room.result _ (length (json_value value))
     (omega (arith, c.loop-col-test.true, wide)) c.loop-col.invariant
-    (ap (λ v. length (json_value v)) (value_in_lent rows.rows c.args.row col c.lent_row-values.result value value c.requires.row c.lent_row-values.ensures.row c.cell.ensures))
+    (ap (λ v. length (json_value v)) (value_in_lent rows.rows c.args.row col c.row_ref-values.result value value c.requires.row c.row_ref-values.ensures.row c.cell.ensures))
     c.json_cell_room.ensures c.saturating_add-room-in-loop-col.ensures
 
 pub returns : goal.returns

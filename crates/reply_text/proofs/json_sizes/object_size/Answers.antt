@@ -14,7 +14,7 @@ loop-col-preserved c =
     let wide = c.rows_are_wide.ensures c.args.row [] c.requires in
     item_after json_value (get_or rows c.args.row []) value c.args.frame c.loop-col.col c.loop-col.size _ (length (json_value value))
     (omega (arith, c.loop-col-test.true, c.width-col-end.ensures, wide)) c.loop-col.invariant
-    (ap (λ v. length (json_value v)) (value_in_lent rows c.args.row c.loop-col.col c.lent_row-values.result value value c.requires c.lent_row-values.ensures.row c.cell.ensures))
+    (ap (λ v. length (json_value v)) (value_in_lent rows c.args.row c.loop-col.col c.row_ref-values.result value value c.requires c.row_ref-values.ensures.row c.cell.ensures))
     (told_one _ _ _ _ c.json_cell_size.ensures c.saturating_add-size.ensures)
 
 pub returns : goal.returns

@@ -23,7 +23,7 @@ put_member-end-requires c =
     let inside : col < length rows.names = omega (arith, c.loop-col-test.true, c.width-col-end.ensures.names) in
     let head_is = c.as_slice.ensures.value ∙ head_there rows.names c.args.heads.now col c.index-heads-col.result c.requires.heads inside c.index-heads-col.is in
     let more = member_more rows.names values col name value [] before (before ++ comma_before col) (before ++ piece) inside (wide ∙ c.width-col-end.ensures.names)
-    (get_or_default rows.names col [] name inside) (value_in_lent rows.rows c.args.row col c.lent_row-values.result value value c.requires.row c.lent_row-values.ensures.row c.cell.ensures) refl refl
+    (get_or_default rows.names col [] name inside) (value_in_lent rows.rows c.args.row col c.row_ref-values.result value value c.requires.row c.row_ref-values.ensures.row c.cell.ensures) refl refl
     (member_behind col name value before (before ++ head) (before ++ piece) (ap (λ h. before ++ h) head_is) (sym (append_assoc before head (json_value value)))) in
     let count = length_zip rows.names values (wide ∙ c.width-col-end.ensures.names) in
     let within = piece_within json_member (zip rows.names values) col [] before piece (omega (arith, inside, count)) more in
@@ -43,7 +43,7 @@ loop-col-preserved c =
     let inside : col < length rows.names = omega (arith, c.loop-col-test.true, c.width-col-end.ensures.names) in
     let head_is = c.as_slice.ensures.value ∙ head_there rows.names c.args.heads.now col c.index-heads-col.result c.requires.heads inside c.index-heads-col.is in
     let more = member_more rows.names values col name value [] before (before ++ comma_before col) (before ++ piece) inside (wide ∙ c.width-col-end.ensures.names)
-    (get_or_default rows.names col [] name inside) (value_in_lent rows.rows c.args.row col c.lent_row-values.result value value c.requires.row c.lent_row-values.ensures.row c.cell.ensures) refl refl
+    (get_or_default rows.names col [] name inside) (value_in_lent rows.rows c.args.row col c.row_ref-values.result value value c.requires.row c.row_ref-values.ensures.row c.cell.ensures) refl refl
     (member_behind col name value before (before ++ head) (before ++ piece) (ap (λ h. before ++ h) head_is) (sym (append_assoc before head (json_value value)))) in
     let front = take c.args.at c.args.out.now in (
       omega (arith, c.loop-col.invariant.0, c.put_member-end.ensures.long),

@@ -19,7 +19,7 @@ put_field-end-requires c =
     let wide = row_width rows c.args.row c.width-col-end.result c.width-col-end.ensures.rows c.requires.row in
     let inside : col < length values = omega (arith, c.loop-col-test.true, wide) in
     let more = piece_joined csv_value values value [] before (before ++ piece) col refl inside
-    (sym (value_in_lent rows c.args.row col c.lent_row-values.result value value c.requires.row c.lent_row-values.ensures.row c.cell.ensures)) refl in
+    (sym (value_in_lent rows c.args.row col c.row_ref-values.result value value c.requires.row c.row_ref-values.ensures.row c.cell.ensures)) refl in
     let within = piece_within csv_value values col [] before piece inside more in
     omega (arith, c.requires.room, c.loop-col.invariant.0, c.loop-col.invariant.1.1, within)
 
@@ -34,7 +34,7 @@ loop-col-preserved c =
     let wide = row_width rows c.args.row c.width-col-end.result c.width-col-end.ensures.rows c.requires.row in
     let inside : col < length values = omega (arith, c.loop-col-test.true, wide) in
     let more = piece_joined csv_value values value [] before (before ++ piece) col refl inside
-    (sym (value_in_lent rows c.args.row col c.lent_row-values.result value value c.requires.row c.lent_row-values.ensures.row c.cell.ensures)) refl in
+    (sym (value_in_lent rows c.args.row col c.row_ref-values.result value value c.requires.row c.row_ref-values.ensures.row c.cell.ensures)) refl in
     let front = take c.args.at c.args.out.now in (
       omega (arith, c.loop-col.invariant.0, c.put_field-end.ensures.long),
       (

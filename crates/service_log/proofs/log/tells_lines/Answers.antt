@@ -1,8 +1,8 @@
 use Rattle.std.proofs.Common.{ℕ, List, [], ◌∷◌, ◌++◌, codes, refl}
 use Rattle.std.specs.Fmt.{decimal}
-use Rattle.message_text.specs.Laws.{IsOneLine}
-use Rattle.program_ends.specs.Laws.{FaultsAreOneLine}
-use Rattle.program_ends.specs.Text.{fault_text}
+use Rattle.text_escapes.specs.Laws.{IsOneLine}
+use Rattle.exit_statuses.specs.Laws.{FaultsAreOneLine}
+use Rattle.exit_statuses.specs.Text.{fault_text}
 use Rattle.service_log.specs.declared.log.CloseReason.{CloseReason}
 use Rattle.service_log.specs.declared.log.CloseReason.TheVariants.{Answered, Lost, Slow, TooLong, NoMemory}
 use Rattle.service_log.specs.Log.{or_unknown, reason_text}

@@ -1,6 +1,6 @@
 use Rattle.std.proofs.Common.{◌≡◌, true, false, Some, sym, ap, ◌∙◌, length, arith}
 use Rattle.csv_grammar.specs.Raw.{raw_content}
-use Rattle.raw_fields.specs.Raw.{raw_view}
+use Rattle.csv_fields.specs.Raw.{raw_view}
 use Rattle.cell_types.specs.Column.{column_view}
 use Rattle.table_store.specs.Table.{is_called}
 use Rattle.table_store.proofs.PlaceLemmas.{slice_get-from_read}

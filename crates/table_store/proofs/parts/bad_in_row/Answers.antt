@@ -1,6 +1,6 @@
 use Rattle.std.proofs.Common.{[], get_or, inl, inr, sym, ap, ◌∙◌}
 use Rattle.std.specs.Result.{result_err}
-use Rattle.raw_fields.specs.Raw.{raw_view}
+use Rattle.csv_fields.specs.Raw.{raw_view}
 use Rattle.table_store.proofs.PartLemmas.{cell_field}
 use Rattle.table_store.proofs.PlaceLemmas.{slice_get-from_read}
 use Rattle.table_store.proofs.RowLemmas.{wrong_from-end, wrong_from-here, wrong_from-past}

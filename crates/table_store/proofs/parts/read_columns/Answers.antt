@@ -2,8 +2,8 @@ use Rattle.std.proofs.Common.{◌≡◌, ◌<◌, List, Some, option_map, length
 use Rattle.std.proofs.lemmas.List.{length-map}
 use Rattle.std.proofs.lemmas.Option.{same_Some, slice_get-map, slice_get_within}
 use Rattle.cell_types.specs.Column.{column_view}
-use Rattle.typed_columns.specs.ColumnReader.{ReaderOf, with_cells}
-use Rattle.typed_columns.specs.Parts.{part_cells, PartHasValues}
+use Rattle.column_blocks.specs.ColumnReader.{ReaderOf, with_cells}
+use Rattle.column_blocks.specs.Parts.{part_cells, PartHasValues}
 use Rattle.table_store.proofs.PartLemmas.{no_fault, part_put, values_put}
 use Rattle.table_store.proofs.PlaceLemmas.{slice_get-from_read}
 use Rattle.table_store.proofs.ReaderLemmas.{slice_get-set_other}

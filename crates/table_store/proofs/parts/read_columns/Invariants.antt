@@ -1,7 +1,7 @@
 use Rattle.std.proofs.Common.{◌≡◌, ◌<◌, ◌≤◌, ℕ, Some, length, map, slice_get}
 use Rattle.cell_types.specs.Column.{column_view, ColumnOf}
-use Rattle.typed_columns.specs.ColumnReader.{ReaderOf, with_cells}
-use Rattle.typed_columns.specs.Parts.{part_cells, PartHasValues}
+use Rattle.column_blocks.specs.ColumnReader.{ReaderOf, with_cells}
+use Rattle.column_blocks.specs.Parts.{part_cells, PartHasValues}
 use Rattle.table_store.proofs.parts.read_columns.Given as goal
 
 -- the columns so far are read, and each of their cells has a value

@@ -1,7 +1,7 @@
 use Rattle.std.proofs.Common.{sym, subst, map}
 use Rattle.cell_types.specs.Column.{column_view}
 use Rattle.csvw_meta.specs.Schema.{schema_view}
-use Rattle.raw_fields.specs.Values.{FitsColumns}
+use Rattle.csv_fields.specs.Values.{FitsColumns}
 use Rattle.table_store.specs.Steps.{ReadsRows}
 use Rattle.table_store.proofs.LoadingLemmas.{other_header, header_fits}
 use Rattle.table_store.proofs.reading.index_step.Goals as goal

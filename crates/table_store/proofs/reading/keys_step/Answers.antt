@@ -1,9 +1,9 @@
 use Rattle.std.proofs.Common.{◌<◌, All, length, sym, subst, ap, ◌∙◌, arith}
 use Rattle.csvw_meta.specs.Schema.{schema_view}
-use Rattle.raw_fields.specs.Values.{rows_in}
-use Rattle.row_keys.specs.Keys.{typed_keys, AreKeysOf, HasKeyFault}
-use Rattle.row_keys.specs.Reading.{AreHeld}
-use Rattle.typed_columns.specs.TypedColumn.{AreTyped}
+use Rattle.csv_fields.specs.Values.{rows_in}
+use Rattle.key_index.specs.Keys.{typed_keys, AreKeysOf, HasKeyFault}
+use Rattle.key_index.specs.Reading.{AreHeld}
+use Rattle.column_blocks.specs.TypedColumn.{AreTyped}
 use Rattle.table_store.specs.Stretches.{HasColumns}
 use Rattle.table_store.proofs.LoadingLemmas.{key_fault-cause}
 use Rattle.table_store.proofs.StageLemmas.{keys_read}

@@ -1,5 +1,5 @@
 use Rattle.std.proofs.Common.{◌≡◌, ◌<◌, ◌≤◌, ℕ, Some, length, slice_get, take}
-use Rattle.typed_columns.specs.TypedColumn.{ColumnCells}
+use Rattle.column_blocks.specs.TypedColumn.{ColumnCells}
 use Rattle.table_store.specs.Stretches.{joined_cells}
 use Rattle.table_store.proofs.stretches.append_columns.Given as goal
 

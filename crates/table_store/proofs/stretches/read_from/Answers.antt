@@ -1,11 +1,11 @@
 use Rattle.std.proofs.Common.{◌≡◌, ◌+◌, ◌-◌, ◌++◌, inl, inr, length, length-drop, take, drop, map, arith, subst, sym, ap, ◌∙◌}
 use Rattle.std.proofs.lemmas.List.{drop-drop, length-map, length-take, take_all}
 use Rattle.csv_index.specs.Parts.{PartsOf}
-use Rattle.raw_fields.specs.Part.{PartOf}
+use Rattle.csv_fields.specs.Part.{PartOf}
 use Rattle.cell_types.specs.Column.{column_view}
-use Rattle.raw_fields.specs.Values.{rows_in}
-use Rattle.typed_columns.specs.ColumnReader.{HaveRead}
-use Rattle.typed_columns.specs.TypedColumn.{AreTyped}
+use Rattle.csv_fields.specs.Values.{rows_in}
+use Rattle.column_blocks.specs.ColumnReader.{HaveRead}
+use Rattle.column_blocks.specs.TypedColumn.{AreTyped}
 use Rattle.table_store.specs.Parts.{wrong_of}
 use Rattle.table_store.proofs.InsideLemmas.{length-rows_in}
 use Rattle.table_store.proofs.PartLemmas.{has_part, part_read_on, part_readers, rows_more, rows_right, wrong_front, HasPart}

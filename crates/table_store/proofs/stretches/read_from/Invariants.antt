@@ -1,8 +1,8 @@
 use Rattle.std.proofs.Common.{◌≡◌, ◌≤◌, ◌-◌, drop, length, map, take}
 use Rattle.cell_types.specs.Column.{column_view}
-use Rattle.raw_fields.specs.Values.{rows_in}
+use Rattle.csv_fields.specs.Values.{rows_in}
 use Rattle.table_store.specs.Parts.{wrong_of}
-use Rattle.typed_columns.specs.ColumnReader.{HaveRead}
+use Rattle.column_blocks.specs.ColumnReader.{HaveRead}
 use Rattle.table_store.proofs.stretches.read_from.Given as goal
 
 -- nothing is wrong so far, the other rows are left, and the readers have read the rows so far

@@ -2,7 +2,7 @@ use Rattle.std.proofs.Common.{◌≡◌, ◌<◌, ◌*◌, ℕ, [], ◌∷◌, L
 use Rattle.block_summary.specs.declared.block.TheConstants.{BLOCK_ROWS}
 use Rattle.block_summary.specs.Ranges.{RangeOf, no_range, IsRangeOf}
 use Rattle.cell_types.specs.Value.{CellValue}
-use Rattle.typed_columns.specs.TypedColumn.{ColumnCells}
+use Rattle.column_blocks.specs.TypedColumn.{ColumnCells}
 use Rattle.table_store.specs.Summaries.{AreRangesAt}
 use Rattle.table_store.proofs.ColumnLemmas.{get_cells}
 use Rattle.table_store.proofs.SummaryLemmas.{block_cells, push_each}

@@ -2,11 +2,11 @@
 use Rattle.std.proofs.Common.{◌≡◌, ◌-◌, ◌≤◌, ◌∙◌, ℕ, List, [], ◌∷◌, ◌++◌, length, get_or, take, drop, arith, append-nil, append_assoc, length-drop, subst, sym, take_all}
 use Rattle.std.proofs.lemmas.Bool.{eqb-true}
 use Rattle.text_encodings.specs.Encodings.{AreUnits, no_unit, one_unit, unit_of}
-use Rattle.text_encodings.specs.declared.utf16.Order.{Order}
+use Rattle.text_encodings.specs.declared.utf16.ByteOrder.{ByteOrder}
 use Rattle.text_encodings.proofs.utf16.units_of.Goals as goal
 use Rattle.text_encodings.proofs.utf16.units_of.Goals.{then-is_empty, else-is_empty}
 
-two_more : (order : Order) (left bytes units more : List ℕ) (u : ℕ) → 2 ≤ length left → u ≡ unit_of order (get_or left 0 0) (get_or left 1 0)
+two_more : (order : ByteOrder) (left bytes units more : List ℕ) (u : ℕ) → 2 ≤ length left → u ≡ unit_of order (get_or left 0 0) (get_or left 1 0)
     → AreUnits order (drop 2 left) more → ((after : List ℕ) → AreUnits order left after → AreUnits order bytes (units ++ after))
     → AreUnits order bytes ((units ++ u ∷ []) ++ more)
 two_more order [] bytes units more u long e are inv = absurd (omega (arith, long))
@@ -15,7 +15,7 @@ two_more order (a ∷ b ∷ rest) bytes units more u long e are inv =
     let Last : ℕ → Type 0 = λ v. AreUnits order (a ∷ b ∷ rest) (v ∷ more) in
     subst (AreUnits order bytes) (sym (append_assoc units (u ∷ []) more)) (inv (u ∷ more) (subst Last (sym e) (one_unit a b rest more are)))
 
-none_left : (order : Order) (left bytes units : List ℕ) → length left ≡ 0 → ((after : List ℕ) → AreUnits order left after → AreUnits order bytes (units ++ after))
+none_left : (order : ByteOrder) (left bytes units : List ℕ) → length left ≡ 0 → ((after : List ℕ) → AreUnits order left after → AreUnits order bytes (units ++ after))
     → AreUnits order bytes units
 none_left order [] bytes units e inv = subst (AreUnits order bytes) (append-nil units) (inv [] no_unit)
 none_left order (b ∷ rest) bytes units e inv = absurd (omega (arith, e))

@@ -2,7 +2,7 @@ use Rattle.std.proofs.Common.{◌≡◌, get_or, false, None, Some, sym, ap, ◌
 use Rattle.std.specs.Prelude.{FitsSigned, pos, ◌+ℤ◌}
 use Rattle.std.proofs.lemmas.Int.{ints}
 use Rattle.block_summary.specs.Cells.{sums}
-use Rattle.offset_lanes.specs.OffsetList.{offset_list}
+use Rattle.frame_of_reference.specs.OffsetList.{offset_list}
 use Rattle.block_summary.proofs.CellLemmas.{read_null, read_past, read_sum}
 use Rattle.block_summary.proofs.integers.Integers.get.Goals as goal
 

@@ -1,7 +1,7 @@
 use Rattle.std.proofs.Common.{length, sym, ap, ◌∙◌, rules, w64}
 use Rattle.std.specs.Prelude.{FitsSigned}
 use Rattle.std.proofs.lemmas.Int.{to_z-of_z}
-use Rattle.offset_lanes.specs.OffsetList.{offset_list}
+use Rattle.frame_of_reference.specs.OffsetList.{offset_list}
 use Rattle.block_summary.proofs.CellLemmas.{length-cells}
 use Rattle.block_summary.proofs.MarkLemmas.{high-is, low-is, marked-between, none-between}
 use Rattle.block_summary.proofs.SpanLemmas.{less, not-less}

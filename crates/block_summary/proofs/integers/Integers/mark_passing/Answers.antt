@@ -1,7 +1,7 @@
 use Rattle.std.proofs.Common.{sym, ◌∙◌, rules, w64}
 use Rattle.std.specs.Prelude.{FitsSigned}
 use Rattle.std.proofs.lemmas.Int.{to_z-of_z}
-use Rattle.offset_lanes.specs.OffsetList.{offset_list}
+use Rattle.frame_of_reference.specs.OffsetList.{offset_list}
 use Rattle.block_summary.proofs.MarkLemmas.{all-fit, plain-marks, turned-marks}
 use Rattle.block_summary.proofs.integers.Integers.mark_passing.Goals as goal
 

@@ -1,6 +1,6 @@
 use Rattle.std.proofs.Common.{inl, inr, length, refl, sym, ap, ◌∙◌}
 use Rattle.std.proofs.lemmas.Bool.{eqb-false, eqb-true}
-use Rattle.offset_lanes.specs.OffsetList.{offset_list}
+use Rattle.frame_of_reference.specs.OffsetList.{offset_list}
 use Rattle.block_summary.proofs.CellLemmas.{length-cells, marks_are, marks_none}
 use Rattle.block_summary.proofs.integers.Integers.unpack_nulls.Goals as goal
 

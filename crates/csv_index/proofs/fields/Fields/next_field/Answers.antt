@@ -1,6 +1,6 @@
 -- The next field is between where it begins and the next place.
 use Rattle.std.proofs.Common.{◌+◌, ◌∷◌, subst, map, sym, ap, ◌∙◌}
-use Rattle.raw_fields.specs.Between.{cut, raw_between}
+use Rattle.csv_fields.specs.Between.{cut, raw_between}
 use Rattle.csv_index.specs.Fields.{AreLeft}
 use Rattle.csv_index.proofs.Boundaries.{left_behind}
 use Rattle.csv_index.proofs.fields.Fields.next_field.Goals as goal

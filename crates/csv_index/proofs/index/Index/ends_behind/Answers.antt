@@ -5,7 +5,7 @@ use Rattle.std.proofs.lemmas.Option.{get_or_from_slice_get}
 use Rattle.std.specs.Int.{bit_not}
 use Rattle.csv_index.specs.Blocks.{block_places, Stands}
 use Rattle.csv_index.specs.Structure.{ends_of}
-use Rattle.csv_index.specs.declared.blocks.Block.{Block}
+use Rattle.csv_index.specs.declared.blocks.ByteBlock.{ByteBlock}
 use Rattle.csv_index.proofs.FindLemmas.{found_behind, last_place, none_behind}
 use Rattle.csv_index.proofs.index.Index.ends_behind.Goals as goal
 
@@ -13,7 +13,7 @@ pub returns-in-Some : goal.returns-in-Some
 returns-in-Some c =
     let s : Stands c.self.inside.blocks.items c.args.n c.in-Some.number c.in-Some.bit = rw c.deref.ensures.value at c.in-Some.ensures in
     let block : c.index.result.now ≡ s.block = c.index.ensures ∙ get_or_from_slice_get c.self.inside.blocks.items c.in-Some.number s.block c.index.result.now s.is in
-    let word = ap (λ (b : Block). b.ends) block in
+    let word = ap (λ (b : ByteBlock). b.ends) block in
     let rest = take_all (length c.self.inside.blocks.items - (c.in-Some.number + 1)) (drop (c.in-Some.number + 1) c.self.inside.blocks.items)
     (omega (arith, length-drop (c.in-Some.number + 1) c.self.inside.blocks.items)) in
     rw (← c.self.view_is)

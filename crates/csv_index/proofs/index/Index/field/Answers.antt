@@ -3,7 +3,7 @@ use Rattle.std.proofs.Common.{◌≡◌, Some, length, ap, ◌∙◌, sym}
 use Rattle.std.specs.List.{slice_get, slice_range}
 use Rattle.std.specs.Option.{option_map}
 use Rattle.std.proofs.lemmas.Option.{slice_get-map}
-use Rattle.raw_fields.specs.Between.{cut, raw_between}
+use Rattle.csv_fields.specs.Between.{cut, raw_between}
 use Rattle.csv_index.proofs.Boundaries.{start_boundary, end_boundary}
 use Rattle.csv_index.proofs.CellLemmas.{raw_is_text, cut_at, start_before}
 use Rattle.csv_index.proofs.index.Index.field.Goals as goal

@@ -4,7 +4,7 @@ use Rattle.std.proofs.lemmas.Option.{get_or_from_slice_get}
 use Rattle.csv_index.specs.Blocks.{block_places, Stands}
 use Rattle.csv_index.specs.Index.{first_places, Places, Rise}
 use Rattle.csv_index.specs.Structure.{ends_of}
-use Rattle.csv_index.specs.declared.blocks.Block.{Block}
+use Rattle.csv_index.specs.declared.blocks.ByteBlock.{ByteBlock}
 use Rattle.csv_index.proofs.FirstRows.{are_kept, few_rows, not_past, AreKept}
 use Rattle.csv_index.proofs.index.Index.truncate.Goals as goal
 use Rattle.csv_index.proofs.index.Index.truncate.Goals.{After-deref, After-shrink_to_fit}
@@ -31,7 +31,7 @@ unreachable-requires c =
     not_past c.self.inside.start ((c.args.rows + 1) * c.self.inside.width) c.self.inside.blocks.items c.self.inside.last (omega (arith, f.0)) past within
 
 -- a block without its places past a bit
-abbrev cut_block : Block → ℕ → Block
+abbrev cut_block : ByteBlock → ℕ → ByteBlock
 cut_block was bit = record { ends = bit_and was.ends ((2 ^ 64 - 1) / 2 ^ (63 - bit)); before = was.before }
 
 kept : (c : After-shrink_to_fit) → AreKept c.self.inside.start ((c.args.rows + 1) * c.self.inside.width - 1) c.self.inside.blocks.items c.shrink_to_fit.new.self.items c.self.inside.last

@@ -1,5 +1,5 @@
 use Rattle.std.proofs.Common.{◌*◌, subst, sym, ap, ◌∙◌}
-use Rattle.raw_fields.specs.Part.{part_between, StandBetween}
+use Rattle.csv_fields.specs.Part.{part_between, StandBetween}
 use Rattle.csv_index.proofs.PartPlaces.{fields_stand, part_is}
 use Rattle.csv_index.proofs.parts.Parts.part.Goals as goal
 

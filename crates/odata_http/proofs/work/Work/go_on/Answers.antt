@@ -14,10 +14,10 @@ returns-in_ok-reply_of-in-ListTables-clause-works c = λ request left.
 
 pub returns-in_ok-reply_of-in-Find-clause-works : goal.returns-in_ok-reply_of-in-Find-clause-works
 returns-in_ok-reply_of-in-Find-clause-works c = λ request left.
-    works_find c.args.catalog.now c.args.method c.args.closes request left c.args.self c.in-Find.finding (response_view c.in_ok-response-in-Find.response)
+    works_find c.args.catalog.now c.args.method c.args.closes request left c.args.self c.in-Find.key_lookup (response_view c.in_ok-response-in-Find.response)
     c.in_ok-reply_of-in-Find.field-0 c.in-Find.is c.in_ok-response-in-Find.ensures.responds c.in_ok-reply_of-in-Find.ensures
 
 pub returns-in_ok-reply_of-in-Over-clause-works : goal.returns-in_ok-reply_of-in-Over-clause-works
 returns-in_ok-reply_of-in-Over-clause-works c = λ request left.
-    works_over c.args.catalog.now c.args.method c.args.closes request left c.args.self c.in-Read.reading c.in_ok-reading-in-Read.field-0 c.in-Over.response
-    c.in_ok-reply_of-in-Over.field-0 c.in-Read.is c.in-Over.is c.in_ok-reading-in-Read.ensures.reads c.in_ok-reply_of-in-Over.ensures
+    works_over c.args.catalog.now c.args.method c.args.closes request left c.args.self c.in-Read.query_run c.in_ok-query_run-in-Read.field-0 c.in-Over.response
+    c.in_ok-reply_of-in-Over.field-0 c.in-Read.is c.in-Over.is c.in_ok-query_run-in-Read.ensures.reads c.in_ok-reply_of-in-Over.ensures

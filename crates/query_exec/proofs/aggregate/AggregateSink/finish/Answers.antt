@@ -2,7 +2,7 @@ use Rattle.std.proofs.Common.{◌≡◌, ap, map, rules, string_bytes, ◌∙◌
 use Rattle.odata_query.specs.Aggregate.{aggregates_view, named_view}
 use Rattle.odata_query.specs.Query.{optional_numbers}
 use Rattle.query_plan.specs.Plan.{node_names}
-use Rattle.row_groups.specs.Gathered.{lent_places}
+use Rattle.aggregate_rows.specs.Gathered.{lent_places}
 use Rattle.cell_types.proofs.CaseLaws.{IfOk-both}
 use Rattle.query_exec.specs.Intermediate.{aggregate_node}
 use Rattle.query_exec.specs.Kept.{kept_names}

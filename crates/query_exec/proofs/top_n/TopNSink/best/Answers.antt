@@ -1,7 +1,7 @@
 use Rattle.std.proofs.Common.{ap, length, map, subst, sym, ◌∙◌}
 use Rattle.odata_query.specs.Query.{order_view}
 use Rattle.row_columns.specs.Picked.{numbered}
-use Rattle.row_order.specs.Best.{best_rows}
+use Rattle.sort_rows.specs.Best.{best_rows}
 use Rattle.query_exec.specs.Items.{none_can_fault, ItemsFit}
 use Rattle.query_exec.specs.Intermediate.{AreAllNumbers}
 use Rattle.query_exec.proofs.StepLemmas.{all_numbered}

@@ -2,7 +2,7 @@ use Rattle.std.proofs.Common.{◌≡◌, ◌≤◌, [], filter, get_or, length, 
 use Rattle.cell_types.specs.Value.{value_view}
 use Rattle.typed_trees.specs.TypedTree.{truth_view}
 use Rattle.query_meaning.specs.Filter.{passes}
-use Rattle.row_order.specs.Cutoffs.{is_near, IsTest}
+use Rattle.sort_rows.specs.Cutoffs.{is_near, IsTest}
 use Rattle.query_exec.specs.Sink.{sink_items}
 use Rattle.query_exec.proofs.CutoffLemmas.{near_are_timely}
 use Rattle.query_exec.proofs.TopNLemmas.{safe_never_faults}

@@ -1,6 +1,6 @@
 use Rattle.std.proofs.Common.{◌<◌, List, get_or, length, ap, ◌∙◌, arith}
 use Rattle.cell_types.specs.Value.{null}
-use Rattle.typed_columns.specs.ColumnCells.{ColumnCells}
+use Rattle.column_blocks.specs.ColumnCells.{ColumnCells}
 use Rattle.row_columns.specs.Piece.{piece_row}
 use Rattle.row_columns.proofs.PieceLemmas.{cell_of_piece}
 use Rattle.row_columns.proofs.piece.Piece.cell.Goals as goal

@@ -1,7 +1,7 @@
 use Rattle.std.proofs.Common.{◌≡◌, ◌<◌, List, Some, length, sym, ap, subst, ◌∙◌, arith}
 use Rattle.text_columns.specs.Codes.{AreCodes}
-use Rattle.typed_columns.specs.ColumnCells.{ColumnCells}
-use Rattle.typed_columns.specs.TypedColumn.{cells_of_texts}
+use Rattle.column_blocks.specs.ColumnCells.{ColumnCells}
+use Rattle.column_blocks.specs.TypedColumn.{cells_of_texts}
 use Rattle.row_columns.specs.Codes.{HaveCodesAt}
 use Rattle.row_columns.specs.Piece.{piece_row}
 use Rattle.row_columns.proofs.CodeLemmas.{all_coded}

@@ -1,7 +1,7 @@
 use Rattle.std.proofs.Common.{◌≡◌, ◌<◌, ℕ, List, get_or, length, ap, subst, arith}
 use Rattle.std.specs.Prelude.{IfSome}
 use Rattle.cell_types.specs.Value.{null}
-use Rattle.typed_columns.specs.ColumnCells.{ColumnCells}
+use Rattle.column_blocks.specs.ColumnCells.{ColumnCells}
 use Rattle.row_columns.specs.Piece.{piece_row}
 use Rattle.row_columns.proofs.PackedLemmas.{packed_column}
 use Rattle.row_columns.proofs.piece.Piece.packed.Goals as goal

@@ -1,5 +1,5 @@
 use Rattle.std.proofs.Common.{List, sym, subst}
-use Rattle.typed_columns.specs.ColumnCells.{ColumnCells}
+use Rattle.column_blocks.specs.ColumnCells.{ColumnCells}
 use Rattle.row_columns.specs.Piece.{HaveTextsAlone}
 use Rattle.row_columns.proofs.PieceLemmas.{picked_alone}
 use Rattle.row_columns.proofs.piece.Piece.picked.Goals as goal

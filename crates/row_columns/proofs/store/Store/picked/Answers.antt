@@ -1,7 +1,7 @@
 use Rattle.std.proofs.Common.{List, Option, Vec, Global, length, map, sym, subst, ap, ◌∙◌}
 use Rattle.block_summary.specs.declared.number.PackedType.{PackedType}
 use Rattle.cell_types.specs.declared.value.Value.{Value}
-use Rattle.typed_columns.specs.ColumnCells.{ColumnCells}
+use Rattle.column_blocks.specs.ColumnCells.{ColumnCells}
 use Rattle.row_columns.specs.declared.store.Store.{Store}
 use Rattle.row_columns.specs.declared.store.Store.TheVariants.{Blocks, Values}
 use Rattle.row_columns.specs.Picked.{kinds_at, values_at}

@@ -1,8 +1,8 @@
 use Rattle.std.proofs.Common.{◌≡◌, ◌<◌, All, length, map, subst, sym, ap, ◌∙◌, arith}
 use Rattle.cell_types.specs.Value.{value_view}
 use Rattle.csvw_meta.specs.Schema.{schema_view}
-use Rattle.row_keys.specs.Key.{row_of}
-use Rattle.row_keys.specs.Keys.{typed_keys, AreKeysOf}
+use Rattle.key_index.specs.Key.{row_of}
+use Rattle.key_index.specs.Keys.{typed_keys, AreKeysOf}
 use Rattle.table_store.specs.Inside.{table_view}
 use Rattle.table_store.specs.Table.{TableOf, keys_of}
 use Rattle.table_store.proofs.ColumnLemmas.{typed-keys}

@@ -1,9 +1,9 @@
 use Rattle.std.proofs.Common.{◌≡◌, length, sym, subst, ◌∙◌}
 use Rattle.std.specs.List.{All}
 use Rattle.csvw_meta.specs.Schema.{schema_view}
-use Rattle.raw_fields.specs.Values.{rows_in}
-use Rattle.row_keys.specs.Keys.{AreKeysOf}
-use Rattle.typed_columns.specs.TypedColumn.{AreTyped, ColumnCells}
+use Rattle.csv_fields.specs.Values.{rows_in}
+use Rattle.key_index.specs.Keys.{AreKeysOf}
+use Rattle.column_blocks.specs.TypedColumn.{AreTyped, ColumnCells}
 use Rattle.table_store.specs.Fits.{HasTableRows}
 use Rattle.table_store.specs.Inside.{table_of}
 use Rattle.table_store.specs.Table.{TableOf, keys_of}

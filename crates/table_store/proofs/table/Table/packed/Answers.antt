@@ -1,7 +1,7 @@
 use Rattle.std.proofs.Common.{◌<◌, ◌*◌, option_map, length, take, drop, ap, ◌∙◌, arith}
 use Rattle.block_summary.specs.declared.block.TheConstants.{BLOCK_ROWS}
 use Rattle.block_summary.specs.declared.number.PackedType.{PackedType}
-use Rattle.typed_columns.specs.TypedColumn.{ColumnCells}
+use Rattle.column_blocks.specs.TypedColumn.{ColumnCells}
 use Rattle.table_store.specs.Block.{block_of, packed_cells}
 use Rattle.table_store.specs.Inside.{table_view}
 use Rattle.table_store.specs.Table.{TableOf}

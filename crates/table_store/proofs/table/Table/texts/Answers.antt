@@ -1,6 +1,6 @@
 use Rattle.std.proofs.Common.{◌<◌, ◌*◌, length, take, drop, ap, ◌∙◌, arith}
 use Rattle.block_summary.specs.declared.block.TheConstants.{BLOCK_ROWS}
-use Rattle.typed_columns.specs.TypedColumn.{cells_of_texts, ColumnCells}
+use Rattle.column_blocks.specs.TypedColumn.{cells_of_texts, ColumnCells}
 use Rattle.table_store.specs.Block.{block_of, text_cells}
 use Rattle.table_store.specs.Inside.{table_view}
 use Rattle.table_store.specs.Table.{TableOf}

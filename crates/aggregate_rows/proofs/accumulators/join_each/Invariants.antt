@@ -1,0 +1,11 @@
+use Rattle.std.proofs.Common.{◌++◌, List}
+use Rattle.cell_types.specs.Value.{CellValue}
+use Rattle.row_columns.specs.Picked.{numbered}
+use Rattle.aggregate_rows.specs.Tallies.{AreAccumulators, IsAccumulator}
+use Rattle.aggregate_rows.proofs.ListLemmas.{ZipFrom}
+use Rattle.aggregate_rows.proofs.accumulators.join_each.Given as goal
+
+-- the rows joined the first accumulators
+abbrev pub invariant-loop-i : goal.invariant-loop-i
+invariant-loop-i l = (rows : List (List CellValue)) → AreAccumulators l.aggregates rows l.initial.accumulators.items
+    → ZipFrom (λ a t. IsAccumulator a (rows ++ numbered l.numbers l.columns.rows) t) (λ a t. IsAccumulator a rows t) l.i l.aggregates l.accumulators.items

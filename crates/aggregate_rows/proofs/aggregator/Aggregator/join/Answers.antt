@@ -1,0 +1,25 @@
+use Rattle.std.proofs.Common.{Some, None, length, refl, sym, ap, ◌∙◌}
+use Rattle.odata_query.specs.Query.{optional_numbers}
+use Rattle.row_columns.specs.Picked.{numbered}
+use Rattle.aggregate_rows.specs.Gathered.{Adjoins, JoinsGroups}
+use Rattle.aggregate_rows.proofs.GatheredLemmas.{groups_join, groups_may_join}
+use Rattle.aggregate_rows.proofs.ListLemmas.{on_ok}
+use Rattle.aggregate_rows.proofs.aggregator.Aggregator.join.Goals as goal
+
+pub join_whole-requires-clause-joins : goal.join_whole-requires-clause-joins
+join_whole-requires-clause-joins c =
+    groups_may_join c.args.self.now (length c.args.columns.now.kinds) (numbered c.args.numbers.now c.args.columns.now.rows) c.requires.joins None c.deref.result.now
+    (ap optional_numbers c.in-None.is) c.deref.ensures.value
+
+pub join_rows-requires-clause-joins : goal.join_rows-requires-clause-joins
+join_rows-requires-clause-joins c =
+    groups_may_join c.args.self.now (length c.args.columns.now.kinds) (numbered c.args.numbers.now c.args.columns.now.rows) c.requires.joins (Some c.deref-in-Some.result.now)
+    c.deref-in-Some-2.result.now (ap optional_numbers c.in-Some.is ∙ ap Some (sym c.deref-in-Some.ensures.value)) c.deref-in-Some-2.ensures.value
+
+pub returns-in-None : goal.returns-in-None
+returns-in-None c =
+    let old = c.args.self.now in
+    let more = numbered c.args.numbers.now c.args.columns.now.rows in
+    let new = record old { groups = c.join_whole.new.self } in
+    on_ok (JoinsGroups None c.deref.result.now old.groups c.join_whole.new.self more) (Adjoins old new more)
+    (λ joins. groups_join old new more None c.deref.result.now refl refl (ap optional_numbers c.in-None.is) c.deref.ensures.value joins) c.join_whole.result c.join_whole.ensures

@@ -1,0 +1,27 @@
+use Rattle.std.proofs.Common.{length, sym, ap, subst, ◌∙◌}
+use Rattle.query_meaning.specs.Fitting.{AreSummable}
+use Rattle.aggregate_rows.specs.Sums.{numbers_in, sum_of, IsKeptAs}
+use Rattle.aggregate_rows.proofs.KeptLemmas.{part_numbers, whole_numbers}
+use Rattle.aggregate_rows.proofs.kept.sum_of_rows.Goals as goal
+
+pub part_sum-requires : goal.part_sum-requires
+part_sum-requires c =
+    let rows = c.args.columns.now.rows in
+    let column = c.in-Some.column.now in
+    let kept : IsKeptAs c.args.summed c.args.place rows column = rw c.in-Some.is at c.kept_column.ensures in
+    subst (λ ns. AreSummable ns (length c.args.numbers.now)) (part_numbers c.args.summed c.args.place rows column kept c.args.numbers.now) c.requires.fits
+
+pub returns-then-are_all : goal.returns-then-are_all
+returns-then-are_all c =
+    let rows = c.args.columns.now.rows in
+    let column = c.in-Some.column.now in
+    let kept : IsKeptAs c.args.summed c.args.place rows column = rw c.in-Some.is at c.kept_column.ensures in
+    c.whole_sum.ensures c.args.summed kept.typed ∙ ap sum_of (whole_numbers c.args.summed c.args.place rows column kept)
+    ∙ ap (λ rs. sum_of (numbers_in c.args.summed c.args.place rs)) (sym (c.are_all.ensures c.if-are_all.true rows (sym c.len.ensures)))
+
+pub returns : goal.returns
+returns c =
+    let rows = c.args.columns.now.rows in
+    let column = c.in-Some.column.now in
+    let kept : IsKeptAs c.args.summed c.args.place rows column = rw c.in-Some.is at c.kept_column.ensures in
+    c.part_sum.ensures ∙ ap sum_of (sym (part_numbers c.args.summed c.args.place rows column kept c.args.numbers.now))

@@ -1,0 +1,111 @@
+-- The rows of `aggregate` and of `groupby` (OData Data Aggregation 4.0, sections 3.2.1 and 3.2.3), gathered while the rows come of which they are computed.
+use Rattle.std.specs.Prelude.{◌≡◌, ◌<◌, ◌+◌, ◌++◌, ℕ, true, false, List, Vec, [], ◌∷◌, Option, Some, None, IfSome, length, map, option_map, slice_index_or}
+use Rattle.std.specs.Global.{Global}
+use Rattle.std.specs.List.{All, AllByRecursion, AllZip, list_any}
+use Rattle.std.specs.Borrow.{Bor}
+use Rattle.cell_types.specs.Value.{CellValue, value_view}
+use Rattle.odata_query.specs.declared.aggregate.Aggregate.{Aggregate}
+use Rattle.odata_query.specs.Aggregate.{NamedAggregateOf}
+use Rattle.odata_query.specs.Query.{optional_numbers}
+use Rattle.insertion_map.specs.Places.{insert_key}
+use Rattle.query_meaning.specs.Apply.{computed_value, computed_values, group_values, rows_of_group, same_values}
+use Rattle.aggregate_rows.specs.declared.aggregator.Aggregator.{Aggregator}
+use Rattle.aggregate_rows.specs.declared.groups.Groups.{Groups}
+use Rattle.aggregate_rows.specs.declared.accumulator.Accumulator.{Accumulator}
+use Rattle.aggregate_rows.specs.Groups.{grouped_rows}
+use Rattle.aggregate_rows.specs.Tallies.{AreAccumulators, FitsAll}
+
+-- one row of aggregates of all rows, or a row for each group of those with the same values in some columns
+abbrev pub gathered_rows : Option (List ℕ) → List NamedAggregateOf → List (List CellValue) → List (List CellValue)
+gathered_rows None aggregates rows = computed_values aggregates rows ∷ []
+gathered_rows (Some places) aggregates rows = grouped_rows places aggregates rows
+
+-- how many columns these have
+abbrev pub gathered_width : Option (List ℕ) → List NamedAggregateOf → ℕ
+gathered_width None aggregates = length aggregates
+gathered_width (Some places) aggregates = length places + length aggregates
+
+-- the values of each group, and the rows of one: all rows are one group of no values
+abbrev pub group_keys : Option (List ℕ) → List (List CellValue) → List (List CellValue)
+group_keys None rows = [] ∷ []
+group_keys (Some places) rows = group_values places rows
+
+abbrev pub part_of : Option (List ℕ) → List (List CellValue) → List CellValue → List (List CellValue)
+part_of None rows key = rows
+part_of (Some places) rows key = rows_of_group places rows key
+
+-- those are the groups of the rows: their values, and what is kept of the rows of each
+pub record HasGroups (places : Option (List ℕ)) (aggregates : List Aggregate) (groups : Groups) (rows : List (List CellValue)) : Type 0 where
+  pub keys_are : map (λ key. map value_view key.items) groups.keys.keys ≡ group_keys places rows
+  pub accumulators_are : AllZip (λ part accumulators. AreAccumulators aggregates part accumulators.items) (map (part_of places rows) (group_keys places rows)) groups.accumulators.items
+
+-- The rows joined, one after another: for these aggregates, of all of them or of the groups by their values in some columns.
+pub record Gathers (aggregator : Aggregator) (places : Option (List ℕ)) (aggregates : List NamedAggregateOf) (rows : List (List CellValue)) : Type 0 where
+  pub places_are : optional_numbers aggregator.places ≡ places
+  pub aggregates_are : aggregator.aggregates.items ≡ map (λ a. a.aggregate) aggregates
+  pub groups_are : HasGroups places aggregator.aggregates.items aggregator.groups rows
+
+-- more rows, of so many columns, may join: some did, and the aggregates can be computed of all of them
+pub record MayJoin (aggregator : Aggregator) (width : ℕ) (more : List (List CellValue)) : Type 0 where
+  pub places : Option (List ℕ)
+  pub aggregates : List NamedAggregateOf
+  pub rows : List (List CellValue)
+  pub gathers : Gathers aggregator places aggregates rows
+  pub within : IfSome places (All (λ place. place < width))
+  pub fits : All (λ a. FitsAll width (rows ++ more) a.aggregate) aggregates
+
+-- these joined behind those that did
+abbrev pub Adjoins : Aggregator → Aggregator → List (List CellValue) → Type 0
+Adjoins old new more = (places : Option (List ℕ)) (aggregates : List NamedAggregateOf) (rows : List (List CellValue)) → Gathers old places aggregates rows
+    → Gathers new places aggregates (rows ++ more)
+
+-- that many columns, and these rows, are what is gathered of all rows that joined
+abbrev pub HasGatheredWidth : Aggregator → ℕ → Type 0
+HasGatheredWidth aggregator width = (places : Option (List ℕ)) (aggregates : List NamedAggregateOf) (rows : List (List CellValue)) → Gathers aggregator places aggregates rows
+    → width ≡ gathered_width places aggregates
+
+abbrev pub HasGatheredRows : Aggregator → List (List CellValue) → Type 0
+HasGatheredRows aggregator made = (places : Option (List ℕ)) (aggregates : List NamedAggregateOf) (rows : List (List CellValue)) → Gathers aggregator places aggregates rows
+    → made ≡ gathered_rows places aggregates rows
+
+-- places that are lent, if so
+abbrev pub lent_places : Option (Bor (List ℕ)) → Option (List ℕ)
+lent_places places = option_map (λ p. p.now) places
+
+-- ---- inside
+
+pub record MayJoinGroups (places : Option (List ℕ)) (aggregates : List Aggregate) (width : ℕ) (old : Groups) (more : List (List CellValue)) : Type 0 where
+  pub rows : List (List CellValue)
+  pub has : HasGroups places aggregates old rows
+  pub fits : AllByRecursion (FitsAll width (rows ++ more)) aggregates
+
+abbrev pub JoinsGroups : Option (List ℕ) → List Aggregate → Groups → Groups → List (List CellValue) → Type 0
+JoinsGroups places aggregates old new more = (rows : List (List CellValue)) → HasGroups places aggregates old rows → HasGroups places aggregates new (rows ++ more)
+
+-- the values of each group
+abbrev pub keys_held : Groups → List (List CellValue)
+keys_held groups = map (λ key. map value_view key.items) groups.keys.keys
+
+-- that is the group of these values
+abbrev pub IsGroupOf : Groups → List CellValue → ℕ → Type 0
+IsGroupOf groups key group = (group < length (keys_held groups)) × (slice_index_or (keys_held groups) group [] ≡ key)
+
+-- the group of a key is one of those that there were, or a new one of no rows, after the others
+pub record HasGroupMore (aggregates : List Aggregate) (old new : Groups) (key : List CellValue) : Type 0 where
+  pub keys : keys_held new ≡ insert_key same_values (keys_held old) key
+  pub stay : list_any (same_values key) (keys_held old) ≡ true → new.accumulators.items ≡ old.accumulators.items
+  pub begins : list_any (same_values key) (keys_held old) ≡ false
+      → (made : Vec Accumulator Global) × AreAccumulators aggregates [] made.items × (new.accumulators.items ≡ old.accumulators.items ++ made ∷ [])
+
+-- how many values make a group, and for each group these and what is computed of its rows
+abbrev pub key_width : Option (List ℕ) → ℕ
+key_width None = 0
+key_width (Some places) = length places
+
+abbrev pub rows_gathered : Option (List ℕ) → List Aggregate → List (List CellValue) → List (List CellValue)
+rows_gathered places aggregates rows = map (λ key. key ++ map (computed_value (part_of places rows key)) aggregates) (group_keys places rows)
+
+-- those rows are made of the groups of any rows
+abbrev pub MakesRows : Groups → List Aggregate → List (List CellValue) → Type 0
+MakesRows groups aggregates made = (places : Option (List ℕ)) (rows : List (List CellValue)) → HasGroups places aggregates groups rows
+    → made ≡ rows_gathered places aggregates rows

@@ -1,0 +1,211 @@
+//! Groups of rows, by their values in some columns, while rows come.
+ghost use Rattle.std.specs.Prelude.{◌≡◌, ◌<◌, ◌+◌, ◌^◌, [], ℕ, IfOk, List, None, OnOk, Option, Some, length, map, replicate, slice_index_or};
+ghost use Rattle.std.specs.List.{All};
+ghost use Rattle.cell_types.specs.Value.{CellValue, value_view};
+ghost use Rattle.odata_query.specs.declared.aggregate.Aggregate.{Aggregate};
+ghost use Rattle.query_meaning.specs.Apply.{values_at};
+ghost use Rattle.row_columns.specs.Kinds.{any};
+ghost use Rattle.row_columns.specs.Picked.{numbered};
+ghost use Rattle.aggregate_rows.specs.Gathered.{key_width, HasGroupMore, HasGroups, IsGroupOf, JoinsGroups, MakesRows, MayJoinGroups};
+
+use crate::parts::parts_of;
+use crate::accumulators::{join_each, row_of, accumulators_of_none};
+use crate::accumulator::Accumulator;
+use cell_types::Value;
+use insertion_map::KeyPlaces;
+use odata_query::Aggregate;
+use row_columns::{Columns, owned};
+use row_selection::Selection;
+use std::alloc::{AllocError, Global};
+
+/// By what rows are grouped, and what is computed of each group.
+#[derive(Clone, Copy)]
+pub(crate) struct Grouping<'a> {
+    /// The places of the columns whose values make a group.
+    pub(crate) places: &'a [usize],
+    pub(crate) aggregates: &'a [Aggregate],
+}
+
+/// Groups in the order of their first rows.
+#[derive(Drop)]
+pub(crate) struct Groups {
+    /// The values of each group.
+    pub(crate) keys: KeyPlaces<Vec<Value<'static>>>,
+    /// What is computed of its rows.
+    pub(crate) accumulators: Vec<Vec<Accumulator>>,
+}
+
+impl Groups {
+    /// Returns no groups.
+    pub(crate) fn none(alloc: Global) -> Groups
+        ensures groups { (places : List ℕ) (aggregates : List Aggregate)
+            → HasGroups (Some places) aggregates result [] }
+        ensures keys { result.keys.keys ≡ [] }
+        ensures accumulators { result.accumulators.items ≡ [] }
+    {
+        Groups {
+            keys: KeyPlaces::new(alloc),
+            accumulators: Vec::new(alloc),
+        }
+    }
+
+    /// All rows as one group, of which there are none.
+    pub(crate) fn whole(alloc: Global, aggregates: &[Aggregate]) -> Result<Groups, AllocError>
+        ensures { IfOk result (λ groups. HasGroups None aggregates.now groups []) }
+    {
+        let mut groups = Groups::none(alloc);
+        groups.keys.insert(Vec::new(alloc))?;
+        groups.accumulators.push(accumulators_of_none(alloc, aggregates)?)?;
+        Ok(groups)
+    }
+
+    /// Returns the rows with these numbers join the one group of all rows.
+    pub(crate) fn join_whole(
+        &mut self,
+        alloc: Global,
+        columns: &Columns,
+        numbers: &Selection,
+        aggregates: &[Aggregate],
+    ) -> Result<(), AllocError>
+        requires within { All (λ number. number < length columns.now.rows) numbers.now }
+        requires joins { MayJoinGroups None aggregates.now (length columns.now.kinds) self.old
+            (numbered numbers.now columns.now.rows) }
+        ensures { OnOk result (JoinsGroups None aggregates.now self.old self.new
+            (numbered numbers.now columns.now.rows)) }
+    {
+        join_each(alloc, &mut self.accumulators[0], columns, numbers, aggregates)
+    }
+
+    /// Returns the rows with these numbers join the groups of their values.
+    pub(crate) fn join_rows(
+        &mut self,
+        alloc: Global,
+        columns: &Columns,
+        numbers: &Selection,
+        grouping: Grouping<'_>,
+    ) -> Result<(), AllocError>
+        requires within { All (λ number. number < length columns.now.rows) numbers.now }
+        requires places { All (λ place. place < length columns.now.kinds) grouping.places.now }
+        requires joins { MayJoinGroups (Some grouping.places.now) grouping.aggregates.now
+            (length columns.now.kinds) self.old (numbered numbers.now columns.now.rows) }
+        ensures { OnOk result (JoinsGroups (Some grouping.entry.places.now)
+            grouping.entry.aggregates.now self.old self.new
+            (numbered numbers.now columns.now.rows)) }
+    {
+        cell_types::values_are_ordered();
+        query_meaning::rows_are_in_groups();
+        if let Some(groups) = self.groups_of(alloc, columns, numbers, grouping)? {
+            let parts = parts_of(alloc, self.keys.len(), numbers, &groups)?;
+            return self.join_parts(alloc, columns, parts, grouping.aggregates);
+        }
+        self.join_each_row(alloc, columns, numbers, grouping)
+    }
+
+    /// Returns the rows with these numbers join the groups of their values, one after another.
+    fn join_each_row(
+        &mut self,
+        alloc: Global,
+        columns: &Columns,
+        numbers: &Selection,
+        grouping: Grouping<'_>,
+    ) -> Result<(), AllocError>
+        requires within { All (λ number. number < length columns.now.rows) numbers.now }
+        requires places { All (λ place. place < length columns.now.kinds) grouping.places.now }
+        requires joins { MayJoinGroups (Some grouping.places.now) grouping.aggregates.now
+            (length columns.now.kinds) self.old (numbered numbers.now columns.now.rows) }
+        ensures { OnOk result (JoinsGroups (Some grouping.entry.places.now)
+            grouping.entry.aggregates.now self.old self.new
+            (numbered numbers.now columns.now.rows)) }
+    {
+        cell_types::values_are_ordered();
+        query_meaning::rows_are_in_groups();
+        let Grouping { places, aggregates } = grouping;
+        let mut key = Vec::with_capacity(alloc, places.len())?;
+        for i in 0..numbers.len() {
+            let number = numbers.at(i);
+            read_key(&mut key, columns, number, places)?;
+            let row = Selection::one(number);
+            let group = self.group_of(alloc, key.as_slice(), aggregates)?;
+            join_each(alloc, &mut self.accumulators[group], columns, &row, aggregates)?;
+        }
+        Ok(())
+    }
+
+    /// Returns the group of a key. One of no rows comes after the others where the key is none of theirs; the key is looked up before it is copied.
+    pub(crate) fn group_of(
+        &mut self,
+        alloc: Global,
+        key: &[Value<'_>],
+        aggregates: &[Aggregate],
+    ) -> Result<usize, AllocError>
+        ensures group { IfOk result (IsGroupOf self.new (map value_view key.now)) }
+        ensures more { OnOk result (HasGroupMore aggregates.now self.old self.new
+            (map value_view key.now)) }
+    {
+        cell_types::values_are_ordered();
+        cell_types::values_compare_as_their_views();
+        match self.keys.place_of_list(key) {
+            Some(group) => Ok(group),
+            None => {
+                let group = self.keys.len();
+                let accumulators = accumulators_of_none(alloc, aggregates)?;
+                self.keys.insert(owned_key(alloc, key)?)?;
+                self.accumulators.push(accumulators)?;
+                Ok(group)
+            }
+        }
+    }
+
+    /// Returns a row for each group: its values, and what is computed of its rows.
+    pub(crate) fn rows(
+        &self,
+        alloc: Global,
+        width: usize,
+        aggregates: &[Aggregate],
+    ) -> Result<Columns, AllocError>
+        requires columns { width + length aggregates.now < 2 ^ 64 }
+        requires gathered { (places : Option (List ℕ)) × (rows : List (List CellValue))
+            × HasGroups places aggregates.now self.now rows
+            × (key_width places ≡ width) }
+        ensures kinds { IfOk result (λ made.
+            made.kinds ≡ replicate (width + length aggregates.now) any) }
+        ensures rows { IfOk result (λ made. MakesRows self.now aggregates.now made.rows) }
+    {
+        let keys = self.keys.in_order(alloc)?;
+        let mut rows = Vec::with_capacity(alloc, keys.len())?;
+        for i in 0..keys.len() {
+            rows.push(row_of(alloc, keys[i].as_slice(), &self.accumulators[i], aggregates)?)?;
+        }
+        Columns::of_rows(alloc, width + aggregates.len(), rows)
+    }
+}
+
+/// Reads the values that a row has in the columns with these places, in the place of those that were read before.
+fn read_key<'a>(
+    key: &mut Vec<Value<'a>>,
+    columns: &'a Columns,
+    number: usize,
+    places: &[usize],
+) -> Result<(), AllocError>
+    requires row { number < length columns.now.rows }
+    requires places { All (λ place. place < length columns.now.kinds) places.now }
+    ensures { OnOk result (map value_view key.new.items
+        ≡ values_at places.now (slice_index_or columns.now.rows number [])) }
+{
+    key.clear();
+    for place in places {
+        key.push(columns.value(number, *place))?;
+    }
+    Ok(())
+}
+
+/// Returns a copy of a key that lives on its own.
+fn owned_key(alloc: Global, key: &[Value<'_>]) -> Result<Vec<Value<'static>>, AllocError>
+    ensures { IfOk result (λ copy. map value_view copy.items ≡ map value_view key.now) }
+{
+    let mut copy = Vec::with_capacity(alloc, key.len())?;
+    for value in key {
+        copy.push(owned(alloc, value)?)?;
+    }
+    Ok(copy)
+}

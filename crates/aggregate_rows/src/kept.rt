@@ -1,0 +1,158 @@
+//! Sums, least and greatest values of rows of a block by its columns as they are kept (OData Data Aggregation 4.0, section 3.1.3): nulls are passed over.
+ghost use Rattle.std.specs.Prelude.{◌≡◌, ◌<◌, ◌≤◌, IfSome, IsTrue, List, length};
+ghost use Rattle.std.specs.List.{All, filter_map};
+ghost use Rattle.block_summary.specs.Ranges.{column_of};
+ghost use Rattle.block_summary.specs.Types.{cells_of_type, numbers_of};
+ghost use Rattle.cell_types.specs.Value.{CellValue, value_view};
+ghost use Rattle.odata_query.specs.declared.aggregate.Aggregate.TheVariants.{Max, Min};
+ghost use Rattle.query_meaning.specs.Apply.{computed_value};
+ghost use Rattle.query_meaning.specs.Fitting.{AreSummable};
+ghost use Rattle.row_columns.specs.Picked.{numbered};
+ghost use Rattle.aggregate_rows.specs.declared.sums.Summed.{Summed};
+ghost use Rattle.aggregate_rows.specs.Sums.{numbers_at, numbers_in, read_of, sum_of, summed_type, IsKeptAs};
+
+use crate::sums::{Summed, sum_of};
+use block_summary::{PackedColumn, PackedType};
+use cell_types::Value;
+use query_meaning::extremes_are_values;
+use row_columns::Columns;
+use row_selection::Selection;
+
+/// Returns true if rows are selected as the first `len` rows.
+fn are_all(numbers: &Selection, len: usize) -> bool
+    ensures { IsTrue result → (rows : List (List CellValue)) → length rows ≡ len
+        → numbered numbers.now rows ≡ rows }
+{
+    numbers.is_all() && numbers.len() == len
+}
+
+/// Returns the column of these rows as it is kept, if they are all that there are.
+fn whole_column<'a>(
+    columns: &'a Columns,
+    numbers: &Selection,
+    place: usize,
+) -> Option<&'a PackedColumn>
+    requires { place < length columns.now.kinds }
+    ensures { IfSome result
+        (λ cells. cells.now ≡ column_of (numbered numbers.now columns.now.rows) place) }
+{
+    let cells = columns.packed(place)?;
+    if !are_all(numbers, columns.len()) {
+        return None;
+    }
+    Some(cells)
+}
+
+/// Returns the least value that these rows have in a column, null if they have none, or `None` if it is not told by how the column is kept. No number is looked at.
+pub(crate) fn kept_least(
+    columns: &Columns,
+    numbers: &Selection,
+    place: usize,
+) -> Option<Value<'static>>
+    requires { place < length columns.now.kinds }
+    ensures { IfSome result (λ value. value_view value
+        ≡ computed_value (numbered numbers.now columns.now.rows) (Min place)) }
+{
+    extremes_are_values();
+    cell_types::values_are_ordered();
+    let column = whole_column(columns, numbers, place)?;
+    let (least, _greatest) = column.ends();
+    match least {
+        Some(value) => Some(value),
+        None => Some(Value::Null),
+    }
+}
+
+/// Returns the greatest of them.
+pub(crate) fn kept_greatest(
+    columns: &Columns,
+    numbers: &Selection,
+    place: usize,
+) -> Option<Value<'static>>
+    requires { place < length columns.now.kinds }
+    ensures { IfSome result (λ value. value_view value
+        ≡ computed_value (numbered numbers.now columns.now.rows) (Max place)) }
+{
+    extremes_are_values();
+    cell_types::values_are_ordered();
+    let column = whole_column(columns, numbers, place)?;
+    let (_least, greatest) = column.ends();
+    match greatest {
+        Some(value) => Some(value),
+        None => Some(Value::Null),
+    }
+}
+
+/// True if numbers of that type are summed so.
+fn is_summed(packed_type: PackedType, summed: Summed) -> bool
+    ensures { IsTrue result → packed_type ≡ summed_type summed }
+{
+    match (summed, packed_type) {
+        (Summed::Integers, PackedType::Integer) => true,
+        (Summed::Decimals, PackedType::Decimal) => true,
+        _ => false,
+    }
+}
+
+/// Returns the column of all rows as it is kept, if it has numbers of that kind.
+fn kept_column(columns: &Columns, place: usize, summed: Summed) -> Option<&PackedColumn>
+    requires { place < length columns.now.kinds }
+    ensures { IfSome result
+        (λ column. IsKeptAs summed place columns.now.rows column.now) }
+{
+    let column = columns.packed(place)?;
+    if !is_summed(column.packed_type(), summed) {
+        return None;
+    }
+    Some(column)
+}
+
+/// Returns the sum of all numbers of a column; None if it has none. No number is looked at.
+fn whole_sum(column: &PackedColumn) -> Option<i128>
+    ensures { (summed : Summed)
+        → cells_of_type (summed_type summed) (numbers_of column.now) ≡ column.now
+        → result ≡ sum_of (filter_map (read_of summed) column.now) }
+{
+    if column.null_count() == column.len() {
+        return None;
+    }
+    Some(column.sum())
+}
+
+/// Returns the sum of the numbers that a column has in some rows; None if it has none there. It goes from the last row to the first.
+fn part_sum(column: &PackedColumn, numbers: &Selection) -> Option<i128>
+    requires { AreSummable (numbers_at column.now numbers.now) (length numbers.now) }
+    ensures { result ≡ sum_of (numbers_at column.now numbers.now) }
+{
+    let mut sum: Option<i128> = None;
+    let mut i = numbers.len();
+    while i > 0 {
+        i -= 1;
+        if let Some(number) = column.number(numbers.at(i)) {
+            sum = Some(number as i128 + sum.unwrap_or(0));
+        }
+    }
+    sum
+}
+
+/// Returns the sum of the numbers of that kind that rows have in a column; None if they have none.
+pub(crate) fn sum_of_rows(
+    columns: &Columns,
+    numbers: &Selection,
+    place: usize,
+    summed: Summed,
+) -> Option<i128>
+    requires within { All (λ number. number < length columns.now.rows) numbers.now }
+    requires place { place < length columns.now.kinds }
+    requires fits { AreSummable (numbers_in summed place (numbered numbers.now columns.now.rows))
+        (length numbers.now) }
+    ensures { result ≡ sum_of (numbers_in summed place (numbered numbers.now columns.now.rows)) }
+{
+    let Some(column) = kept_column(columns, place, summed) else {
+        return sum_of(columns, numbers, place, summed);
+    };
+    if are_all(numbers, columns.len()) {
+        return whole_sum(column);
+    }
+    part_sum(column, numbers)
+}

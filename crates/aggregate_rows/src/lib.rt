@@ -1,0 +1,16 @@
+//! Aggregates of rows in columns, of all of them or of each group (OData Data Aggregation 4.0, section 3). An [`Aggregator`] is given the rows piece by
+//! piece and keeps of each group its values and what is computed of it so far; it gives the one row of `aggregate` or the rows of `groupby`:
+//! what the definitions compute of the list of all rows.
+#![tactic(auto)]
+
+mod codes;
+mod computed;
+mod aggregator;
+mod groups;
+mod kept;
+mod parts;
+mod sums;
+mod accumulators;
+mod accumulator;
+
+pub use aggregator::{Aggregator, gathered};

@@ -1,0 +1,220 @@
+//! Rows by their groups, before they join.
+ghost use Rattle.std.specs.Prelude.{◌≡◌, ◌<◌, ◌≤◌, ◌^◌, ℕ, [], IfOk, IfSome, None, OnOk, Some, length, map, slice_index_or};
+ghost use Rattle.std.specs.List.{All, AllByRecursion};
+ghost use Rattle.cell_types.specs.Value.{value_view};
+ghost use Rattle.query_meaning.specs.Apply.{values_at};
+ghost use Rattle.row_columns.specs.Picked.{numbered};
+ghost use Rattle.aggregate_rows.specs.Gathered.{HasGroupMore, IsGroupOf};
+ghost use Rattle.aggregate_rows.specs.Parts.{AreGroupsOf, ArePartsFrom, BeginsGroups, JoinsParts, MayJoinParts};
+
+use crate::codes::key_codes;
+use crate::groups::{Grouping, Groups};
+use crate::accumulators::join_each;
+use cell_types::Value;
+use odata_query::Aggregate;
+use row_columns::Columns;
+use row_selection::Selection;
+use std::alloc::{AllocError, Global};
+
+/// Up to this many groups, rows are separated by them before they join.
+const MOST_PARTS: usize = 1024;
+
+/// Rows of at most this many are separated.
+const PART_ROWS: usize = 1 << 16;
+
+/// A row of columns.
+#[derive(Clone, Copy)]
+struct RowAt<'a> {
+    columns: &'a Columns,
+    number: usize,
+}
+
+impl Groups {
+    /// Returns the groups of the rows with these numbers, each looked up by the code of its values if there are such codes and few groups.
+    pub(crate) fn groups_of(
+        &mut self,
+        alloc: Global,
+        columns: &Columns,
+        numbers: &Selection,
+        grouping: Grouping<'_>,
+    ) -> Result<Option<Vec<usize>>, AllocError>
+        requires within { All (λ number. number < length columns.now.rows) numbers.now }
+        requires places { All (λ place. place < length columns.now.kinds) grouping.places.now }
+        ensures none { IfOk result (λ groups. groups ≡ None → self.new ≡ self.old) }
+        ensures few { IfOk result (λ groups. IfSome groups
+            (λ _. length columns.now.rows ≤ 2 ^ 16)) }
+        ensures groups { IfOk result (λ groups. IfSome groups (λ groups. AreGroupsOf self.new
+            grouping.entry.places.now (numbered numbers.now columns.now.rows) groups.items)) }
+        ensures begun { IfOk result (λ groups. IfSome groups (λ groups. BeginsGroups
+            grouping.entry.places.now grouping.entry.aggregates.now self.old self.new
+            (numbered numbers.now columns.now.rows))) }
+    {
+        cell_types::values_are_ordered();
+        if self.keys.len() > MOST_PARTS || columns.len() > PART_ROWS {
+            return Ok(None);
+        }
+        let Some(codes) = key_codes(alloc, columns, numbers, grouping.places)? else {
+            return Ok(None);
+        };
+        let mut groups = Vec::with_capacity(alloc, numbers.len())?;
+        let mut known = none_known(alloc, codes.count)?;
+        for i in 0..numbers.len() {
+            let code = usize::from(codes.codes[i]);
+            let row = RowAt {
+                columns,
+                number: numbers.at(i),
+            };
+            let group = self.group_of_row(alloc, row, grouping, &mut known[code])?;
+            groups.push(group)?;
+        }
+        Ok(Some(groups))
+    }
+
+    /// Returns the group of a row, which is known, or looked up by the row's values; it is known from then on.
+    #[inline(always)]
+    fn group_of_row(
+        &mut self,
+        alloc: Global,
+        row: RowAt<'_>,
+        grouping: Grouping<'_>,
+        known: &mut Option<usize>,
+    ) -> Result<usize, AllocError>
+        requires row { row.number < length row.columns.now.rows }
+        requires places { All (λ place. place < length row.columns.now.kinds) grouping.places.now }
+        requires known { IfSome known.old (IsGroupOf self.old (values_at grouping.places.now
+            (slice_index_or row.columns.now.rows row.number []))) }
+        ensures group { IfOk result (IsGroupOf self.new (values_at grouping.entry.places.now
+            (slice_index_or row.entry.columns.now.rows row.entry.number []))) }
+        ensures more { OnOk result (HasGroupMore grouping.entry.aggregates.now self.old self.new
+            (values_at grouping.entry.places.now
+            (slice_index_or row.entry.columns.now.rows row.entry.number []))) }
+        ensures known { IfOk result (λ group. known.new ≡ Some group) }
+    {
+        cell_types::values_are_ordered();
+        match *known {
+            Some(group) => Ok(group),
+            None => {
+                let group = self.group_of_values(alloc, row.columns, row.number, grouping)?;
+                *known = Some(group);
+                Ok(group)
+            }
+        }
+    }
+
+    /// Returns the group of the values of a row.
+    fn group_of_values(
+        &mut self,
+        alloc: Global,
+        columns: &Columns,
+        number: usize,
+        grouping: Grouping<'_>,
+    ) -> Result<usize, AllocError>
+        requires row { number < length columns.now.rows }
+        requires places { All (λ place. place < length columns.now.kinds) grouping.places.now }
+        ensures group { IfOk result (IsGroupOf self.new (values_at grouping.entry.places.now
+            (slice_index_or columns.now.rows number []))) }
+        ensures more { OnOk result (HasGroupMore grouping.entry.aggregates.now self.old self.new
+            (values_at grouping.entry.places.now (slice_index_or columns.now.rows number []))) }
+    {
+        let key = key_of(alloc, columns, number, grouping.places)?;
+        self.group_of(alloc, key.as_slice(), grouping.aggregates)
+    }
+
+    /// Returns the rows join of which each group has a part.
+    pub(crate) fn join_parts(
+        &mut self,
+        alloc: Global,
+        columns: &Columns,
+        parts: Vec<Vec<u16>>,
+        aggregates: &[Aggregate],
+    ) -> Result<(), AllocError>
+        requires within { AllByRecursion (λ part.
+            All (λ number. number < length columns.now.rows) part.items) parts.items }
+        requires joins { MayJoinParts aggregates.now (length columns.now.kinds) self.old
+            columns.now.rows parts.items }
+        ensures keys { OnOk result (self.new.keys ≡ self.old.keys) }
+        ensures joins { OnOk result (JoinsParts aggregates.now self.old self.new columns.now.rows
+            parts.items) }
+    {
+        let mut group = 0;
+        for part in parts {
+            let numbers = Selection::few(part);
+            join_each(
+                alloc,
+                &mut self.accumulators[group],
+                columns,
+                &numbers,
+                aggregates,
+            )?;
+            group += 1;
+        }
+        Ok(())
+    }
+}
+
+/// Returns the values that a row has in the columns with these places.
+fn key_of<'a>(
+    alloc: Global,
+    columns: &'a Columns,
+    number: usize,
+    places: &[usize],
+) -> Result<Vec<Value<'a>>, AllocError>
+    requires row { number < length columns.now.rows }
+    requires places { All (λ place. place < length columns.now.kinds) places.now }
+    ensures { IfOk result (λ key. map value_view key.items
+        ≡ values_at places.now (slice_index_or columns.now.rows number [])) }
+{
+    let mut key = Vec::with_capacity(alloc, places.len())?;
+    for place in places {
+        key.push(columns.value(number, *place))?;
+    }
+    Ok(key)
+}
+
+/// Returns the numbers of the rows of each group.
+pub(crate) fn parts_of(
+    alloc: Global,
+    len: usize,
+    numbers: &Selection,
+    groups: &[usize],
+) -> Result<Vec<Vec<u16>>, AllocError>
+    requires long { length numbers.now ≡ length groups.now }
+    requires few { All (λ number. number < 2 ^ 16) numbers.now }
+    requires within { All (λ group. group < len) groups.now }
+    ensures long { IfOk result (λ parts. length parts.items ≡ len) }
+    ensures parts { IfOk result (λ parts.
+        ArePartsFrom 0 numbers.now groups.now parts.items) }
+{
+    let mut parts = no_parts(alloc, len, numbers.len() / (len / 2 + 1))?;
+    for i in 0..numbers.len() {
+        parts[groups[i]].push(numbers.at(i) as u16)?;
+    }
+    Ok(parts)
+}
+
+/// Returns no known group for any of `count` codes.
+fn none_known(alloc: Global, count: usize) -> Result<Vec<Option<usize>>, AllocError>
+    ensures long { IfOk result (λ known. length known.items ≡ count) }
+    ensures none { IfOk result (λ known.
+        (code : ℕ) → slice_index_or known.items code None ≡ None) }
+{
+    let mut known = Vec::with_capacity(alloc, count)?;
+    for _ in 0..count {
+        known.push(None)?;
+    }
+    Ok(known)
+}
+
+/// Returns parts without rows, each with room.
+fn no_parts(alloc: Global, len: usize, room: usize) -> Result<Vec<Vec<u16>>, AllocError>
+    ensures long { IfOk result (λ parts. length parts.items ≡ len) }
+    ensures none { IfOk result (λ parts.
+        AllByRecursion (λ part. part.items ≡ []) parts.items) }
+{
+    let mut parts = Vec::with_capacity(alloc, len)?;
+    for _ in 0..len {
+        let part = Vec::with_capacity(alloc, room)?;
+        parts.push(part)?;
+    }
+    Ok(parts)
+}

@@ -1,0 +1,79 @@
+//! Sums of the numbers of a column (OData Data Aggregation 4.0, section 3.1.3.1): nulls are passed over. Each goes from the last row to the first.
+ghost use Rattle.std.specs.Prelude.{◌≡◌, ◌<◌, [], length, slice_index_or};
+ghost use Rattle.std.specs.List.{All};
+ghost use Rattle.query_meaning.specs.Fitting.{AreSummable};
+ghost use Rattle.row_columns.specs.Picked.{numbered};
+ghost use Rattle.row_eval.specs.Row.{cell, decimal_in, integer_in};
+ghost use Rattle.aggregate_rows.specs.Sums.{numbers_in, read_of, sum_of};
+
+use cell_types::Value;
+use row_columns::Columns;
+use row_selection::Selection;
+
+/// What is summed.
+#[derive(Clone, Copy)]
+pub(crate) enum Summed {
+    Integers,
+    /// In millionths.
+    Decimals,
+}
+
+/// Returns the sum of the numbers of that kind that rows have in a column; None if they have none.
+pub(crate) fn sum_of(
+    columns: &Columns,
+    numbers: &Selection,
+    place: usize,
+    summed: Summed,
+) -> Option<i128>
+    requires within { All (λ number. number < length columns.now.rows) numbers.now }
+    requires place { place < length columns.now.kinds }
+    requires fits { AreSummable (numbers_in summed place (numbered numbers.now columns.now.rows))
+        (length numbers.now) }
+    ensures { result ≡ sum_of (numbers_in summed place (numbered numbers.now columns.now.rows)) }
+{
+    let mut sum: Option<i128> = None;
+    let mut i = numbers.len();
+    while i > 0 {
+        i -= 1;
+        if let Some(number) = number_at(columns, numbers.at(i), place, summed) {
+            sum = Some(number + sum.unwrap_or(0));
+        }
+    }
+    sum
+}
+
+/// Returns the number of that kind that a row has in a column.
+fn number_at(columns: &Columns, row: usize, place: usize, summed: Summed) -> Option<i128>
+    requires row { row < length columns.now.rows }
+    requires place { place < length columns.now.kinds }
+    ensures { result ≡ cell (read_of summed) (slice_index_or columns.now.rows row []) place }
+{
+    match summed {
+        Summed::Integers => integer_at(columns, row, place),
+        Summed::Decimals => decimal_at(columns, row, place),
+    }
+}
+
+/// Returns the integer that a row has in a column.
+fn integer_at(columns: &Columns, row: usize, place: usize) -> Option<i128>
+    requires row { row < length columns.now.rows }
+    requires place { place < length columns.now.kinds }
+    ensures { result ≡ cell integer_in (slice_index_or columns.now.rows row []) place }
+{
+    match columns.value(row, place) {
+        Value::Int(number) => Some(number),
+        _ => None,
+    }
+}
+
+/// Returns the decimal that a row has in a column.
+fn decimal_at(columns: &Columns, row: usize, place: usize) -> Option<i128>
+    requires row { row < length columns.now.rows }
+    requires place { place < length columns.now.kinds }
+    ensures { result ≡ cell decimal_in (slice_index_or columns.now.rows row []) place }
+{
+    match columns.value(row, place) {
+        Value::Decimal(number) => Some(number),
+        _ => None,
+    }
+}

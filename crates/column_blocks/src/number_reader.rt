@@ -1,0 +1,169 @@
+//! The cells of a column of numbers, as the rows of a file are read.
+ghost use Rattle.std.specs.Prelude.{◌≡◌, ◌<◌, ◌≤◌, ◌+◌, ◌⊎◌, Some, Ok, Err, [], IfOk, IfErr, OnOk, length};
+ghost use Rattle.std.specs.Option.{ForSome};
+ghost use Rattle.block_summary.specs.Reading.{packed_type_of as packed_type_of_datatype};
+ghost use Rattle.block_summary.specs.Types.{cell_of, IsNumberOf};
+ghost use Rattle.block_summary.specs.declared.block.TheConstants.{BLOCK_ROWS};
+ghost use Rattle.cell_types.specs.Column.{column_view};
+ghost use Rattle.cell_types.specs.Datatype.{datatype_view};
+ghost use Rattle.csv_fields.specs.Raw.{raw_view};
+ghost use Rattle.csv_fields.specs.Values.{value_in, value_or_null, HasValue};
+ghost use Rattle.column_blocks.specs.Parts.{part_cells, HasCellFault, PartHasValues};
+ghost use Rattle.column_blocks.specs.Readers.{numbers_with, numbers_with_cells};
+ghost use Rattle.column_blocks.specs.TypedColumn.{cells_in, AreBlocks};
+
+use block_summary::{BLOCK_ROWS, CellBuffer, PackedColumn, PackedType, read_number};
+use cell_types::{CellFault, Column};
+use csv_fields::{Part, Raw};
+use std::alloc::{AllocError, Global};
+use std::marker::Model;
+
+/// The cells of a column of numbers that are read one after another.
+#[derive(Drop)]
+pub struct NumberReader {
+    packed_type: PackedType,
+    /// How many cells there are to be.
+    rows: usize,
+    /// The blocks that are full.
+    blocks: Vec<PackedColumn>,
+    /// The cells after them.
+    buffer: CellBuffer,
+}
+
+impl Model for NumberReader {
+    ghost use Rattle.column_blocks.specs.Readers.{NumberReaderOf};
+
+    ghost Value = { NumberReaderOf };
+
+    ghost use Rattle.std.specs.Prelude.{◌≡◌, ◌≤◌, ◌++◌, length, min};
+    ghost use Rattle.block_summary.specs.declared.block.TheConstants.{BLOCK_ROWS};
+    ghost use Rattle.column_blocks.specs.TypedColumn.{cells_in, AreFull};
+
+    ghost view = { λ r. record {
+      packed_type = r.packed_type;
+      rows = r.rows;
+      cells = cells_in r.blocks.items ++ r.buffer.cells;
+    } };
+
+    ghost invariant = { λ r. AreFull BLOCK_ROWS r.blocks.items
+        × (r.buffer.packed_type ≡ r.packed_type)
+        × (r.buffer.room ≡ min r.rows BLOCK_ROWS)
+        × (length r.buffer.cells ≤ BLOCK_ROWS) };
+}
+
+impl NumberReader {
+    /// Returns a reader of `rows` cells, none of which is read.
+    pub fn new(
+        alloc: Global,
+        packed_type: PackedType,
+        rows: usize,
+    ) -> Result<NumberReader, AllocError>
+        ensures { IfOk result
+            (λ reader. reader ≡ record { packed_type = packed_type; rows = rows; cells = [] }) }
+    {
+        let buffer = CellBuffer::new(alloc, packed_type, rows.min(BLOCK_ROWS))?;
+        Ok(NumberReader {
+            packed_type,
+            rows,
+            blocks: Vec::new(alloc),
+            buffer,
+        })
+    }
+
+    pub fn packed_type(&self) -> PackedType
+        ensures { result ≡ self.now.packed_type }
+    {
+        self.packed_type
+    }
+
+    /// Adds the cell of a number, or a null.
+    #[inline(always)]
+    fn push(&mut self, alloc: Global, number: Option<i64>) -> Result<(), AllocError>
+        requires room { length self.old.cells < self.old.rows }
+        requires number { ForSome number (IsNumberOf self.old.packed_type) }
+        ensures { OnOk result
+            (self.new ≡ numbers_with self.old (cell_of self.old.packed_type number)) }
+    {
+        if self.buffer.len() == BLOCK_ROWS {
+            self.blocks.push(self.buffer.pack(alloc)?)?;
+            self.buffer.clear();
+        }
+        self.buffer.push(number);
+        Ok(())
+    }
+
+    /// Reads the field of the next row.
+    #[inline(always)]
+    fn read(&mut self, alloc: Global, column: &Column, raw: Raw<'_>) -> Result<(), CellFault>
+        requires column { packed_type_of_datatype (datatype_view column.now.datatype)
+            ≡ Some self.old.packed_type }
+        requires room { length self.old.cells < self.old.rows }
+        ensures value { OnOk result (HasValue (column_view column.now) (raw_view raw.entry)) }
+        ensures cells { OnOk result (self.new ≡ numbers_with self.old
+            (value_or_null (value_in (column_view column.now, raw_view raw.entry)))) }
+        ensures fault { IfErr result (λ e. (e ≡ CellFault.NoMemory)
+            ⊎ (value_in (column_view column.now, raw_view raw.entry) ≡ Err e)) }
+    {
+        let number = field_number(alloc, column, self.packed_type, raw)?;
+        self.push(alloc, number)?;
+        Ok(())
+    }
+
+    /// Reads the fields of a column in the rows of a part.
+    pub fn read_part(
+        &mut self,
+        alloc: Global,
+        column: &Column,
+        part: &Part<'_, '_>,
+        col: usize,
+    ) -> Result<(), CellFault>
+        requires column { packed_type_of_datatype (datatype_view column.now.datatype)
+            ≡ Some self.old.packed_type }
+        requires room { length self.old.cells + length part.now.rows ≤ self.old.rows }
+        requires col { col < part.now.width }
+        ensures values { OnOk result (PartHasValues (column_view column.now) col part.now.rows) }
+        ensures cells { OnOk result (self.new ≡ numbers_with_cells self.old
+            (part_cells (column_view column.now) col part.now.rows)) }
+        ensures fault { IfErr result (λ e. (e ≡ CellFault.NoMemory)
+            ⊎ HasCellFault (column_view column.now) col part.now.rows e) }
+    {
+        for row in 0..part.rows() {
+            match self.read(alloc, column, part.field(row, col)) {
+                Ok(()) => {}
+                Err(fault) => return Err(fault),
+            }
+        }
+        Ok(())
+    }
+
+    /// Returns the blocks of the cells that were read.
+    pub fn finish(self, alloc: Global) -> Result<Vec<PackedColumn>, AllocError>
+        ensures cells { IfOk result (λ blocks. cells_in blocks.items ≡ self.cells) }
+        ensures blocks { IfOk result (λ blocks. AreBlocks BLOCK_ROWS blocks.items) }
+    {
+        let mut blocks = self.blocks;
+        if self.buffer.len() > 0 {
+            blocks.push(self.buffer.pack(alloc)?)?;
+        }
+        Ok(blocks)
+    }
+}
+
+/// Returns the number of the value of a field, or null.
+#[inline(always)]
+fn field_number(
+    alloc: Global,
+    column: &Column,
+    packed_type: PackedType,
+    raw: Raw<'_>,
+) -> Result<Option<i64>, CellFault>
+    requires { packed_type_of_datatype (datatype_view column.now.datatype) ≡ Some packed_type }
+    ensures value { IfOk result (λ number.
+        value_in (column_view column.now, raw_view raw.entry) ≡ Ok (cell_of packed_type number)) }
+    ensures number { IfOk result (λ number. ForSome number (IsNumberOf packed_type)) }
+    ensures fault { IfErr result (λ e. (e ≡ CellFault.NoMemory)
+        ⊎ (value_in (column_view column.now, raw_view raw.entry) ≡ Err e)) }
+{
+    let text = raw.text(alloc)?;
+    read_number(alloc, column, packed_type, text.as_str())
+}

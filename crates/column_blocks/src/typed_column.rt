@@ -1,0 +1,98 @@
+//! The columns of a table.
+ghost use Rattle.std.specs.Prelude.{◌≡◌, ◌<◌, ◌*◌, ◌++◌, IfOk, OnOk, length, take, drop, option_map, slice_index_or};
+ghost use Rattle.std.specs.Option.{option_copied};
+ghost use Rattle.block_summary.specs.Ranges.{IsRangeOf};
+ghost use Rattle.block_summary.specs.declared.block.TheConstants.{BLOCK_ROWS};
+ghost use Rattle.cell_types.specs.Value.{null, value_view};
+ghost use Rattle.column_blocks.specs.TypedColumn.{block_in, cells_of_texts, AreWholeBlocks};
+
+use crate::block_cells::BlockCells;
+use block_summary::{BLOCK_ROWS, PackedColumn, PackedType, Range};
+use cell_types::Value;
+use std::alloc::{AllocError, Global};
+use std::marker::Model;
+use text_columns::TextColumn;
+
+/// The cells of a column of a table, block by block.
+#[derive(Drop)]
+pub struct TypedColumn {
+    /// What the numbers of the cells stand for, where they are no texts.
+    pub(crate) packed_type: Option<PackedType>,
+    pub(crate) blocks: Vec<BlockCells>,
+}
+
+impl Model for TypedColumn {
+    ghost use Rattle.column_blocks.specs.ColumnCells.{ColumnCells};
+
+    ghost Value = { ColumnCells };
+
+    ghost use Rattle.block_summary.specs.declared.block.TheConstants.{BLOCK_ROWS};
+    ghost use Rattle.column_blocks.specs.TypedColumn.{cells_in, cells_of_each, AreBlocks, AreOfType};
+
+    ghost view = { λ c. record {
+      packed_type = c.packed_type;
+      cells = cells_in (cells_of_each c.blocks.items);
+    } };
+
+    ghost invariant = { λ c. AreBlocks BLOCK_ROWS (cells_of_each c.blocks.items)
+        × AreOfType c.packed_type c.blocks.items };
+}
+
+impl TypedColumn {
+    /// Puts the cells of another column after these, which fill their blocks.
+    pub fn append(&mut self, after: TypedColumn) -> Result<(), AllocError>
+        requires kind { after.packed_type ≡ self.old.packed_type }
+        requires whole { AreWholeBlocks (length self.old.cells) }
+        ensures { OnOk result
+            (self.new ≡ record self.old { cells = self.old.cells ++ after.cells }) }
+    {
+        let mut blocks = after.blocks;
+        self.blocks.append(&mut blocks)
+    }
+
+    /// Returns the value of a row; null past the end.
+    pub fn value(&self, row: usize) -> Value<'_>
+        ensures { value_view result ≡ slice_index_or self.now.cells row null }
+    {
+        let number = row / BLOCK_ROWS;
+        if number >= self.blocks.len() {
+            return Value::Null;
+        }
+        self.blocks[number].value(row % BLOCK_ROWS)
+    }
+
+    /// Returns the cells of the block of a number, counted from 0, as they are packed; nothing for texts.
+    pub fn packed(&self, number: usize) -> Option<&PackedColumn>
+        requires { number * BLOCK_ROWS < length self.now.cells }
+        ensures { option_copied result ≡ option_map (λ type.
+            take BLOCK_ROWS (drop (number * BLOCK_ROWS) self.now.cells)) self.now.packed_type }
+    {
+        self.blocks[number].packed()
+    }
+
+    /// Returns the texts and nulls of the block of a number, counted from 0; nothing for numbers.
+    pub fn texts(&self, number: usize) -> Option<TextColumn<'_>>
+        requires { number * BLOCK_ROWS < length self.now.cells }
+        ensures { result ≡ cells_of_texts self.now.packed_type
+            (take BLOCK_ROWS (drop (number * BLOCK_ROWS) self.now.cells)) }
+    {
+        self.blocks[number].texts()
+    }
+
+    /// Returns the cells of the block of a number, counted from 0, for another owner. It takes no memory.
+    pub fn shared(&self, number: usize) -> Result<BlockCells, AllocError>
+        requires { number * BLOCK_ROWS < length self.now.cells }
+        ensures { IfOk result (λ shared. shared ≡ block_in self.now number) }
+    {
+        self.blocks[number].shared()
+    }
+
+    /// Returns the range of the block of a number, counted from 0.
+    pub fn range(&self, alloc: Global, number: usize) -> Result<Range, AllocError>
+        requires { number * BLOCK_ROWS < length self.now.cells }
+        ensures { IfOk result (λ range. IsRangeOf range
+            (take BLOCK_ROWS (drop (number * BLOCK_ROWS) self.now.cells))) }
+    {
+        self.blocks[number].range(alloc)
+    }
+}

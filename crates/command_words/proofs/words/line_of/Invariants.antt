@@ -1,8 +1,0 @@
-use Rattle.std.proofs.Common.{◌≡◌, map, take}
-use Rattle.std.specs.Prelude.{string_bytes}
-use Rattle.command_words.specs.Words.{texts}
-use Rattle.command_words.proofs.words.line_of.Given as goal
-
--- the words so far are in the line
-abbrev pub invariant-loop-word : goal.invariant-loop-word
-invariant-loop-word l = texts l.line.items ≡ map string_bytes (take l.word-index l.words)

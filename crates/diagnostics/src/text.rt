@@ -1,0 +1,62 @@
+//! Texts of others in a line, and patterns of dates.
+ghost use Rattle.std.specs.Prelude.{◌≡◌, IfOk, string_bytes};
+ghost use Rattle.cell_types.specs.Datatype.{pattern_of as pattern_of_form};
+ghost use Rattle.text_escapes.specs.Escapes.{escaped as escaped_text};
+ghost use Rattle.diagnostics.specs.Text.{cut_text, front_of, is_long, quoted_text, with_mark};
+
+use cell_types::DateForm;
+use text_escapes::escaped;
+use serde_json::Value;
+use std::alloc::{AllocError, Global};
+
+/// The most characters of a text that stand in a line.
+pub const MOST_CHARACTERS: usize = 80;
+
+/// Returns the prefix of a text that fits into a line.
+fn front(alloc: Global, text: &str) -> Result<String, AllocError>
+    ensures { IfOk result (λ front. string_bytes front ≡ front_of text.now) }
+{
+    text.chars().take(MOST_CHARACTERS).collect(alloc)
+}
+
+/// Returns what stands in a line for a text, with three points after it where the text is cut.
+fn marked(alloc: Global, front: &str, text: &str) -> Result<String, AllocError>
+    ensures { IfOk result
+        (λ line. string_bytes line ≡ with_mark (escaped_text front.now) (is_long text.now)) }
+{
+    let mut line = escaped(alloc, front)?;
+    if text.chars().count() > MOST_CHARACTERS {
+        line.push_str("...")?;
+    }
+    Ok(line)
+}
+
+/// Returns a text on one line, cut at eighty characters.
+pub fn cut(alloc: Global, text: &str) -> Result<String, AllocError>
+    ensures { IfOk result (λ line. string_bytes line ≡ cut_text text.now) }
+{
+    let front = front(alloc, text)?;
+    marked(alloc, front.as_str(), text)
+}
+
+/// Returns a text as a JSON text on one line, cut at eighty characters.
+pub fn quoted(alloc: Global, text: &str) -> Result<String, AllocError>
+    ensures { IfOk result (λ line. string_bytes line ≡ quoted_text text.now) }
+{
+    let front = front(alloc, text)?;
+    let json = Value::String(front).to_string(alloc);
+    marked(alloc, json?.as_str(), text)
+}
+
+/// Returns the pattern of a form of dates.
+pub fn pattern_of(form: DateForm) -> &'static str
+    ensures { result.now ≡ pattern_of_form form }
+{
+    match form {
+        DateForm::YearMonthDay => "yyyy-MM-dd",
+        DateForm::Compact => "yyyyMMdd",
+        DateForm::DayMonthYear => "dd/MM/yyyy",
+        DateForm::MonthDayYear => "MM/dd/yyyy",
+        DateForm::Dotted => "dd.MM.yyyy",
+    }
+}

@@ -1,0 +1,8 @@
+//! The words of the command line of `csvw_draft`, as `clap` reads them.
+#![tactic(auto)]
+
+mod conversion;
+mod words;
+
+pub use conversion::Conversion;
+pub use words::{DraftOptions, USAGE_LINE, DraftCommand, read_words};

@@ -1,8 +1,0 @@
-//! The words of the command line of `csvw_draft`, as `clap` reads them.
-#![tactic(auto)]
-
-mod conversion;
-mod words;
-
-pub use conversion::Conversion;
-pub use words::{Asks, USAGE_LINE, Words, read_words};

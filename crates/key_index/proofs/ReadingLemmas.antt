@@ -1,0 +1,94 @@
+-- The keys of more rows are read.
+use Rattle.std.proofs.Common.{◌≡◌, ◌+◌, ◌/◌, ◌<◌, ◌≤◌, ◌^◌, ℕ, List, [], Some, None, get_or, length, min, replicate, take, IsTrue, ◌↔◌, inl, inr, subst, sym, ap, ◌∙◌, arith}
+use Rattle.std.proofs.lemmas.Bool.{cases_lt}
+use Rattle.std.proofs.lemmas.List.{length-map, take_all}
+use Rattle.cell_types.specs.Value.{CellValue, null, value_eq}
+use Rattle.key_index.specs.declared.keys.Keys.TheVariants.{Rising, Slots}
+use Rattle.key_index.specs.declared.keys.KeyFault.TheVariants.{Twice}
+use Rattle.key_index.specs.declared.rising.Rise.{Rise}
+use Rattle.key_index.specs.declared.reading.Seats.{Seats}
+use Rattle.key_index.specs.declared.reading.Held.TheVariants as held_by
+use Rattle.key_index.specs.Key.{null_row, repeated_row, row_key}
+use Rattle.key_index.specs.Keys.{typed_keys, typed_row, AreKeysOf, HasKeyFault}
+use Rattle.key_index.specs.Rising.{AreRising, Rises}
+use Rattle.key_index.specs.Slots.{free, free_slots}
+use Rattle.key_index.specs.Reading.{held_left, SeatsRows}
+use Rattle.key_index.proofs.RisingLemmas.{rising-distinct, rising-whole, rising_same}
+use Rattle.key_index.proofs.RowLemmas.{length-typed_keys, no_typed_keys, typed_key, typed_keys-le}
+use Rattle.key_index.proofs.SlotLemmas.{all_free, seated_same}
+use Rattle.column_blocks.specs.ColumnCells.{ColumnCells}
+
+-- ---- in slots
+-- all slots are free
+pub seats_free : (places : List ℕ) (columns : List ColumnCells) (rows count : ℕ) (seats : Seats) → count ≡ length (typed_keys places columns rows) → seats.row ≡ 0 → seats.repeated ≡ None
+    → seats.slots.items ≡ replicate (count + count / 3 + 1) free → length seats.slots.items ≡ count + count / 3 + 1 → SeatsRows places columns rows seats
+seats_free places columns rows count seats is none unknown made size =
+    let keys = typed_keys places columns rows in
+    let all = ap free_slots made ∙ all_free (count + count / 3 + 1) in record {
+      within = omega (arith, none);
+      long = size ∙ ap (λ n. n + n / 3 + 1) is;
+      whole = ap (λ n. null_row (take n keys)) none;
+      repeated = unknown ∙ sym (ap (λ n. repeated_row (take n keys)) none);
+      seated = λ _ row within. absurd (omega (arith, within, none));
+      room = λ _. omega (arith, all, size, none);
+    }
+
+module _ (places : List ℕ) (columns : List ColumnCells) (rows : ℕ) (seats : Seats) (are : SeatsRows places columns rows seats) (over : length (typed_keys places columns rows) ≤ seats.row) where
+  all_keys : take seats.row (typed_keys places columns rows) ≡ typed_keys places columns rows
+  all_keys = take_all seats.row (typed_keys places columns rows) over
+
+  -- no key is repeated
+  pub seats_distinct : rows ≤ 2 ^ 31 → seats.repeated ≡ None → AreKeysOf (Slots seats.row seats.slots) (typed_keys places columns rows)
+  seats_distinct few none =
+      let keys = typed_keys places columns rows in
+      let key_at : ℕ → List CellValue = λ row. row_key places (typed_row row columns) in
+      let read : (r : ℕ) → r < length keys → get_or keys r [] ≡ key_at r = typed_key places columns rows in record {
+        found = record {
+          count = omega (arith, are.within, over);
+          room = omega (arith, are.long);
+          few = omega (arith, are.long, typed_keys-le places columns rows, few);
+          seated = seated_same key_at (λ r. get_or keys r []) seats.slots.items (length keys) (λ r within. sym (read r within))
+              (λ r within. are.seated none r (omega (arith, within, over)));
+        };
+        whole = ap null_row (sym all_keys) ∙ are.whole;
+        distinct = ap repeated_row (sym all_keys) ∙ sym are.repeated ∙ none;
+      }
+
+  pub seats_twice : (row : ℕ) → seats.repeated ≡ Some row → HasKeyFault (typed_keys places columns rows) (Twice row)
+  seats_twice row some = (ap null_row (sym all_keys) ∙ are.whole, ap repeated_row (sym all_keys) ∙ sym are.repeated ∙ some)
+
+-- fewer rows are left
+pub fewer_seats : (places : List ℕ) (columns : List ColumnCells) (rows : ℕ) (seats new : Seats) → new.row ≡ min (length (typed_keys places columns rows)) (seats.row + 4096)
+    → new.row < length (typed_keys places columns rows) → held_left rows (held_by.Slots new) < held_left rows (held_by.Slots seats)
+fewer_seats places columns rows seats new is more = omega (arith, is, more, typed_keys-le places columns rows)
+
+-- ---- while they rise
+pub fewer_rising : (rows : ℕ) (rise new : Rise) → new.row ≡ min rows (rise.row + 4096) → new.row < rows
+    → held_left rows (held_by.Rising new) < held_left rows (held_by.Rising rise)
+fewer_rising rows rise new is more = omega (arith, is, more)
+
+-- the keys of all rows rise
+pub all_rising : ((a b : CellValue) → IsTrue (value_eq a b) ↔ (a ≡ b)) → (places : List ℕ) (columns : List ColumnCells) (rows : ℕ) (rise : Rise) → rise.row ≡ rows
+    → Rises (λ row. row_key places (typed_row row columns)) rise → AreKeysOf (Rising rows) (typed_keys places columns rows)
+all_rising equal places columns rows rise all rises =
+    let keys = typed_keys places columns rows in
+    let key_at : ℕ → List CellValue = λ row. row_key places (typed_row row columns) in
+    let of : ℕ → CellValue = λ place. get_or (typed_row 0 columns) place null in
+    let rising : AreRising key_at rows = subst (AreRising key_at) all rises.rising in
+    let count : rows ≡ length keys =
+    elim (cases_lt 0 (length places)) [
+      | inl some ↦ sym (length-typed_keys places columns rows some)
+      | inr none ↦ elim (cases_lt 0 rows) [
+        | inl more ↦
+            let one : length (key_at 0) ≡ 1 = ap length (rising.are 0 more) in
+            let size : length (key_at 0) ≡ length places = length-map places of in
+            absurd (omega (arith, one, size, none))
+        | inr zero ↦ omega (arith, zero, no_typed_keys places columns rows (omega (arith, none)))
+      ]
+    ] in
+    let here : AreRising (λ row. get_or keys row []) (length keys) =
+    rising_same key_at (λ row. get_or keys row []) (length keys) (λ row within. sym (typed_key places columns rows row within)) (subst (AreRising key_at) count rising) in record {
+      found = (count, here);
+      whole = rising-whole keys here;
+      distinct = rising-distinct equal keys here;
+    }

@@ -1,0 +1,3 @@
+pub mod ListenOptions
+pub mod Listens
+pub mod Laws

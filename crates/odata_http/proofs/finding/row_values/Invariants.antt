@@ -1,7 +1,0 @@
-use Rattle.std.proofs.Common.{◌≡◌, [], get_or, take}
-use Rattle.row_eval.specs.Row.{row_view}
-use Rattle.odata_http.proofs.finding.row_values.Given as goal
-
--- the values up to there
-abbrev pub invariant-loop-col : goal.invariant-loop-col
-invariant-loop-col l = row_view l.values.items ≡ take l.col (get_or l.table.rows l.row [])

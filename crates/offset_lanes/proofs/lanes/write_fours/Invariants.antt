@@ -1,5 +1,0 @@
-use Rattle.offset_lanes.proofs.LaneLemmas.{AreOffsetsTo}
-use Rattle.offset_lanes.proofs.lanes.write_fours.Given as goal
-
-abbrev pub invariant-loop-i : goal.invariant-loop-i
-invariant-loop-i l = AreOffsetsTo l.i l.least l.greatest l.nulls l.values l.out

@@ -1,5 +1,0 @@
-use Rattle.raw_fields.proofs.RawLemmas.{field_of-raw_of}
-use Rattle.raw_fields.proofs.fields_stand_so.Goals as goal
-
-pub returns : goal.returns
-returns c = field_of-raw_of

@@ -1,8 +1,0 @@
-use Rattle.std.proofs.Common.{◌≡◌, false, map, take}
-use Rattle.cell_types.specs.Value.{value_view}
-use Rattle.row_keys.specs.Key.{has_null}
-use Rattle.row_keys.proofs.cells.has_null.Given as goal
-
--- no value so far is null
-abbrev pub invariant-loop-value : goal.invariant-loop-value
-invariant-loop-value l = has_null (take l.value-index (map value_view l.key)) ≡ false

@@ -1,8 +1,0 @@
--- The keys so far rise, and none is above the last.
-use Rattle.row_keys.specs.Key.{row_key}
-use Rattle.row_keys.specs.Keys.{typed_row}
-use Rattle.row_keys.specs.Rising.{Rises}
-use Rattle.row_keys.proofs.rising.rises_on.Given as goal
-
-abbrev pub invariant-loop-row : goal.invariant-loop-row
-invariant-loop-row l = Rises (λ row. row_key l.places (typed_row row l.columns)) (record { row = l.row; last = l.last })

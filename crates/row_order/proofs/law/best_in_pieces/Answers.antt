@@ -1,5 +1,0 @@
-use Rattle.row_order.proofs.BestLemmas.{best_in_pieces_lem}
-use Rattle.row_order.proofs.law.best_in_pieces.Goals as goal
-
-pub returns : goal.returns
-returns c = best_in_pieces_lem c.values_are_ordered.ensures.total c.rows_are_in_order.ensures

@@ -1,5 +1,0 @@
-use Rattle.summary_eval.proofs.NumberLemmas.{numbers-tested}
-use Rattle.summary_eval.proofs.numbers.numbers_are_tested.Goals as goal
-
-pub returns : goal.returns
-returns c = numbers-tested c.dates_read_back.ensures c.dates_are_compared.ensures

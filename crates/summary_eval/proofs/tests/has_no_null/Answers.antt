@@ -1,6 +1,0 @@
-use Rattle.summary_eval.specs.Known.{cell_at_place}
-use Rattle.summary_eval.proofs.TestLemmas.{no-null}
-use Rattle.summary_eval.proofs.tests.has_no_null.Goals as goal
-
-pub returns : goal.returns
-returns c = λ fails cells is. no-null (cell_at_place cells c.args.place) (c.fails_each.ensures fails cells is)

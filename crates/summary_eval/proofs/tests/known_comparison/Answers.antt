@@ -1,9 +1,0 @@
-use Rattle.cell_types.specs.Value.{value_view}
-use Rattle.summary_eval.specs.Known.{cell_at_place}
-use Rattle.summary_eval.proofs.TestLemmas.{comparison-known}
-use Rattle.summary_eval.proofs.tests.known_comparison.Goals as goal
-
-pub returns-in-Some : goal.returns-in-Some
-returns-in-Some c = λ cells is.
-    comparison-known c.args.kind c.args.operator c.comparison_of.result (cell_at_place cells c.args.place) (value_view c.args.literal) c.in-Some.holds c.truth_of.result
-    c.comparison_of.ensures (c.are_of_kind.ensures c.if-not-are_of_kind.false cells is) c.requires (c.in-Some.ensures cells is) c.truth_of.ensures

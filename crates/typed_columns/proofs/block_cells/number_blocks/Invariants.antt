@@ -1,7 +1,0 @@
-use Rattle.std.proofs.Common.{◌≡◌, Some}
-use Rattle.typed_columns.specs.TypedColumn.{blocks_of}
-use Rattle.typed_columns.proofs.block_cells.number_blocks.Given as goal
-
--- there is a block for each so far
-abbrev pub invariant-loop-column : goal.invariant-loop-column
-invariant-loop-column l = l.blocks.items ≡ blocks_of (Some l.packed_type) l.yielded

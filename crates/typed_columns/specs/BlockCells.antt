@@ -1,9 +1,0 @@
--- The cells of a column in one block.
-use Rattle.std.specs.Prelude.{Some, None}
-use Rattle.typed_columns.specs.ColumnCells.{ColumnCells}
-use Rattle.typed_columns.specs.declared.block_cells.Kept.{Kept}
-use Rattle.typed_columns.specs.declared.block_cells.Kept.TheVariants.{Numbers, Texts}
-
-abbrev pub kept_cells : Kept → ColumnCells
-kept_cells (Numbers type numbers) = record { packed_type = Some type; cells = numbers.value }
-kept_cells (Texts texts) = record { packed_type = None; cells = texts.value }

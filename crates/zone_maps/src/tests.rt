@@ -1,0 +1,141 @@
+//! What a comparison of a column with a literal says of all rows of a block, told by the range of the column.
+
+ghost use Rattle.std.specs.Prelude.{◌≡◌, false, true, List, IfSome, IsTrue};
+ghost use Rattle.cell_types.specs.Value.{CellValue, value_view};
+ghost use Rattle.block_summary.specs.Ranges.{is_null};
+ghost use Rattle.zone_maps.specs.Known.{cell_at_place, comparison_of as comparison_of_operator, is_of_kind, opposite_of as opposite_of_comparison, HaveCellAlone, AreOfKind, HasOpposite, HasTruth, IsRowWithin, Says};
+
+use crate::kinds::{Kind, tests_around};
+use block_summary::{Comparison, Summary, Test, admits, skips_no_row};
+use cell_types::{Value, values_are_ordered};
+use row_eval::{Truth, truth_of};
+use typed_trees::ComparisonOperator;
+
+/// Returns an operator as a comparison of a column with a literal.
+pub fn comparison_of(operator: ComparisonOperator) -> Comparison
+    ensures { result ≡ comparison_of_operator operator }
+{
+    match operator {
+        ComparisonOperator::Equal => Comparison::Equal,
+        ComparisonOperator::NotEqual => Comparison::NotEqual,
+        ComparisonOperator::GreaterThan => Comparison::GreaterThan,
+        ComparisonOperator::GreaterOrEqual => Comparison::GreaterOrEqual,
+        ComparisonOperator::LessThan => Comparison::LessThan,
+        ComparisonOperator::LessOrEqual => Comparison::LessOrEqual,
+    }
+}
+
+fn opposite_of(comparison: Comparison) -> Comparison
+    ensures { result ≡ opposite_of_comparison comparison }
+{
+    match comparison {
+        Comparison::Equal => Comparison::NotEqual,
+        Comparison::NotEqual => Comparison::Equal,
+        Comparison::GreaterThan => Comparison::LessOrEqual,
+        Comparison::GreaterOrEqual => Comparison::LessThan,
+        Comparison::LessThan => Comparison::GreaterOrEqual,
+        Comparison::LessOrEqual => Comparison::GreaterThan,
+    }
+}
+
+/// True if the range of a column tells that no row passes a test.
+fn fails_each(summary: &Summary, place: usize, test: &Test<'_>) -> bool
+    ensures { IsTrue result → Says summary.now place test.now false }
+{
+    skips_no_row();
+    place < summary.width() && !admits(summary, place, test)
+}
+
+/// True if the range of a column tells that each cell is a value.
+pub fn is_each(summary: &Summary, place: usize, value: Value<'_>) -> bool
+    ensures { IsTrue result → HaveCellAlone (value_view value.entry) summary.now place }
+{
+    values_are_ordered();
+    let test = Test {
+        op: Comparison::NotEqual,
+        literal: value,
+    };
+    fails_each(summary, place, &test)
+}
+
+/// True if the range of a column tells that no row is null.
+fn has_no_null(summary: &Summary, place: usize) -> bool
+    ensures { IsTrue result → (cells : List CellValue) → IsRowWithin summary.now cells
+        → is_null (cell_at_place cells place) ≡ false }
+{
+    let test = Test {
+        op: Comparison::Equal,
+        literal: Value::Null,
+    };
+    fails_each(summary, place, &test)
+}
+
+/// True if the opposite of a test holds just where the test does not: not of an order, if there is null.
+fn has_opposite(summary: &Summary, place: usize, test: &Test<'_>) -> bool
+    ensures { IsTrue result → HasOpposite summary.now place test.now }
+{
+    match test.op {
+        Comparison::Equal | Comparison::NotEqual => true,
+        _ => !matches!(test.literal, Value::Null) && has_no_null(summary, place),
+    }
+}
+
+/// True if the range of a column tells that each row passes a test.
+fn passes_each(summary: &Summary, place: usize, test: Test<'_>) -> bool
+    ensures { IsTrue result → Says summary.now place test.entry true }
+{
+    if !has_opposite(summary, place, &test) {
+        return false;
+    }
+    let opposite = Test {
+        op: opposite_of(test.op),
+        literal: test.literal,
+    };
+    fails_each(summary, place, &opposite)
+}
+
+/// Returns what a test says of each row alike, or `None` if the range does not tell.
+fn known_test(summary: &Summary, place: usize, test: Test<'_>) -> Option<bool>
+    ensures { IfSome result (λ b. Says summary.now place test.entry b) }
+{
+    if fails_each(summary, place, &test) {
+        return Some(false);
+    }
+    if passes_each(summary, place, test) {
+        return Some(true);
+    }
+    None
+}
+
+/// True if the range of a column tells that each cell is null or of a kind.
+fn are_of_kind(summary: &Summary, place: usize, kind: Kind) -> bool
+    ensures { IsTrue result → AreOfKind kind summary.now place }
+{
+    let (before, behind) = tests_around(kind);
+    fails_each(summary, place, &before) && fails_each(summary, place, &behind)
+}
+
+/// Returns the truth that a comparison of a column with a literal has on each row alike, or `None` if the range does not tell.
+pub fn known_comparison(
+    summary: &Summary,
+    kind: Kind,
+    operator: ComparisonOperator,
+    place: usize,
+    literal: Value<'_>,
+) -> Option<Truth>
+    requires { is_of_kind kind (value_view literal) ≡ true }
+    ensures { IfSome result
+        (HasTruth kind operator summary.now place (value_view literal.entry)) }
+{
+    if !are_of_kind(summary, place, kind) {
+        return None;
+    }
+    let test = Test {
+        op: comparison_of(operator),
+        literal,
+    };
+    match known_test(summary, place, test) {
+        Some(holds) => Some(truth_of(holds)),
+        None => None,
+    }
+}
