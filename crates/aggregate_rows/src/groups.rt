@@ -8,9 +8,9 @@ ghost use Rattle.row_columns.specs.Kinds.{any};
 ghost use Rattle.row_columns.specs.Picked.{numbered};
 ghost use Rattle.aggregate_rows.specs.Gathered.{key_width, HasGroupMore, HasGroups, IsGroupOf, JoinsGroups, MakesRows, MayJoinGroups};
 
-use crate::parts::parts_of;
-use crate::accumulators::{join_each, row_of, accumulators_of_none};
 use crate::accumulator::Accumulator;
+use crate::accumulators::{accumulators_of_none, join_each, row_of};
+use crate::parts::parts_of;
 use cell_types::Value;
 use insertion_map::KeyPlaces;
 use odata_query::Aggregate;
@@ -55,7 +55,9 @@ impl Groups {
     {
         let mut groups = Groups::none(alloc);
         groups.keys.insert(Vec::new(alloc))?;
-        groups.accumulators.push(accumulators_of_none(alloc, aggregates)?)?;
+        groups
+            .accumulators
+            .push(accumulators_of_none(alloc, aggregates)?)?;
         Ok(groups)
     }
 
@@ -73,7 +75,13 @@ impl Groups {
         ensures { OnOk result (JoinsGroups None aggregates.now self.old self.new
             (numbered numbers.now columns.now.rows)) }
     {
-        join_each(alloc, &mut self.accumulators[0], columns, numbers, aggregates)
+        join_each(
+            alloc,
+            &mut self.accumulators[0],
+            columns,
+            numbers,
+            aggregates,
+        )
     }
 
     /// Returns the rows with these numbers join the groups of their values.
@@ -126,7 +134,13 @@ impl Groups {
             read_key(&mut key, columns, number, places)?;
             let row = Selection::one(number);
             let group = self.group_of(alloc, key.as_slice(), aggregates)?;
-            join_each(alloc, &mut self.accumulators[group], columns, &row, aggregates)?;
+            join_each(
+                alloc,
+                &mut self.accumulators[group],
+                columns,
+                &row,
+                aggregates,
+            )?;
         }
         Ok(())
     }

@@ -3,14 +3,14 @@
 //! what the definitions compute of the list of all rows.
 #![tactic(auto)]
 
+mod accumulator;
+mod accumulators;
+mod aggregator;
 mod codes;
 mod computed;
-mod aggregator;
 mod groups;
 mod kept;
 mod parts;
 mod sums;
-mod accumulators;
-mod accumulator;
 
 pub use aggregator::{Aggregator, gathered};

@@ -7,9 +7,9 @@ ghost use Rattle.row_columns.specs.Picked.{numbered};
 ghost use Rattle.aggregate_rows.specs.Gathered.{HasGroupMore, IsGroupOf};
 ghost use Rattle.aggregate_rows.specs.Parts.{AreGroupsOf, ArePartsFrom, BeginsGroups, JoinsParts, MayJoinParts};
 
+use crate::accumulators::join_each;
 use crate::codes::key_codes;
 use crate::groups::{Grouping, Groups};
-use crate::accumulators::join_each;
 use cell_types::Value;
 use odata_query::Aggregate;
 use row_columns::Columns;

@@ -7,12 +7,12 @@ ghost use Rattle.block_eval.specs.Lanes.{AreOutcomesWithin};
 use crate::columns::BlockColumn;
 use crate::leaf::eval_leaf;
 use crate::truths::{compare_truths, truths_among};
-use number_kernels::{Fallback, conjunction, disjunction, negation, open_rows, same_truth};
 use block_summary::Summary;
+use number_kernels::{Fallback, conjunction, disjunction, negation, open_rows, same_truth};
 use row_eval::Truth;
 use std::alloc::Global;
-use zone_maps::known_truth;
 use typed_trees::TruthExpr;
+use zone_maps::known_truth;
 
 /// Returns the truths of a condition that has no condition as a part on the wanted rows of a block. If the ranges of the block decide its truth, no
 /// column is read.

@@ -6,8 +6,8 @@ ghost use Rattle.block_eval.specs.Bounds.{AreFitting};
 ghost use Rattle.block_eval.specs.Lanes.{AreLong};
 
 use crate::bounds::joined_bounds;
-use number_kernels::{Fallback, Numbers, join, join_fitting};
 use block_summary::Bounds;
+use number_kernels::{Fallback, Numbers, join, join_fitting};
 use std::alloc::Global;
 use typed_trees::ArithmeticOperator;
 

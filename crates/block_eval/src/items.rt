@@ -11,8 +11,8 @@ ghost use Rattle.block_eval.specs.Items.{slot_of as slot_of_number, AreFoundAmon
 ghost use Rattle.block_eval.specs.Lanes.{number_lane, AreLong};
 
 use crate::bounded::Bounded;
-use number_kernels::Numbers;
 use block_summary::Bounds;
+use number_kernels::Numbers;
 use row_eval::{Truth, truth_of};
 use std::alloc::{AllocError, Global};
 

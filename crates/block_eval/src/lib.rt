@@ -20,5 +20,5 @@ mod texts;
 mod truths;
 
 pub use block::eval_block;
-pub use number_kernels::Fallback;
 pub use columns::BlockColumn;
+pub use number_kernels::Fallback;

@@ -8,12 +8,12 @@ ghost use Rattle.block_eval.specs.Lanes.{truth_lane};
 ghost use Rattle.block_eval.specs.Packed.{AreNumbersCompared, HasNumbersAt, IsUnpackedAt};
 
 use crate::columns::BlockColumn;
-use number_kernels::Fallback;
 use block_summary::{Bounds, PackedColumn, PackedType};
+use number_kernels::Fallback;
 use row_eval::{Truth, truth_of};
 use std::alloc::Global;
-use zone_maps::comparison_of;
 use typed_trees::{ComparisonOperator, NumberKind};
+use zone_maps::comparison_of;
 
 /// Returns the type of the packed numbers of a kind.
 pub fn type_of_kind(kind: NumberKind) -> PackedType

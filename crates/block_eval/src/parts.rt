@@ -10,8 +10,8 @@ ghost use Rattle.block_eval.specs.Parts.{day_part};
 use crate::bounded::Bounded;
 use crate::columns::BlockColumn;
 use crate::packed::{Unpacked, unpacked_at};
-use number_kernels::{Fallback, Numbers};
 use block_summary::PackedType;
+use number_kernels::{Fallback, Numbers};
 use std::alloc::Global;
 use typed_trees::{DateExpr, DatePart};
 

@@ -10,12 +10,12 @@ ghost use Rattle.block_eval.specs.Spans.{in_span, span_comparison, ComparesSpan,
 
 use crate::columns::BlockColumn;
 use crate::packed::{compare_packed, packed_in, type_of_kind};
-use number_kernels::{Fallback, conjunction, negation};
 use block_summary::{Bounds, PackedColumn, PackedType};
+use number_kernels::{Fallback, conjunction, negation};
 use row_eval::Truth;
 use std::alloc::Global;
-use zone_maps::constant_number;
 use typed_trees::{ComparisonOperator, DateExpr, DatePart, NumberExpr};
+use zone_maps::constant_number;
 
 /// Returns the span of one number, if it has 64 bits.
 fn span_of_number(number: i128) -> Option<Bounds>

@@ -1,7 +1,7 @@
 //! The forms that the cells of a column may have: a guess.
 use std::alloc::{AllocError, Global};
 use value_forms::{
-    DayForm, Form, Marks, NumberForm, DateOrder, Scale, TRUTHS, TruthWords, UNITS, Unit, split_time,
+    DateOrder, DayForm, Form, Marks, NumberForm, Scale, TRUTHS, TruthWords, UNITS, Unit, split_time,
 };
 
 /// The marks of numbers that are tried, the point and what is between thousands.
@@ -86,7 +86,11 @@ fn push_dates(forms: &mut Forms, cell: &str) -> Result<(), AllocError> {
     let letters = cell.bytes().filter(|byte| byte.is_ascii_alphabetic());
     let is_named = letters.count() > 2;
     for separator in SEPARATORS {
-        for order in [DateOrder::YearFirst, DateOrder::DayFirst, DateOrder::MonthFirst] {
+        for order in [
+            DateOrder::YearFirst,
+            DateOrder::DayFirst,
+            DateOrder::MonthFirst,
+        ] {
             let is_dotted = separator == b'.' && matches!(order, DateOrder::MonthFirst);
             let is_spaced = separator == b' ' && !is_named;
             if !is_dotted && !is_spaced {

@@ -4,7 +4,7 @@ ghost use Rattle.column_forms.specs.Choice.{is_plain_form};
 
 use crate::seen::CellsSeen;
 use crate::wants::Wants;
-use value_forms::{DayForm, Form, NumberForm, DateOrder, Scale};
+use value_forms::{DateOrder, DayForm, Form, NumberForm, Scale};
 
 /// Returns true if a form is of numbers with that point.
 fn has_point(form: Form<'_>, point: u8) -> bool {

@@ -7,5 +7,5 @@ mod seen;
 mod wants;
 
 pub use choice::{Choice, Point, choice_of, is_plain, point_of};
-pub use seen::{NULLS, CellsSeen, null_place, seen_text};
+pub use seen::{CellsSeen, NULLS, null_place, seen_text};
 pub use wants::Wants;

@@ -3,9 +3,9 @@ ghost use Rattle.std.specs.Prelude.{◌≡◌, IfOk};
 ghost use Rattle.schema_inference.specs.Draft.{IsDraft};
 
 use cell_types::{Column, Datatype};
-use schema_inference::{DraftFault, accepted_text, table_json};
 use csvw_meta::{Limits, Schema};
-use file_convert::{ColumnReport, ReportKind, NULLS};
+use file_convert::{ColumnReport, NULLS, ReportKind};
+use schema_inference::{DraftFault, accepted_text, table_json};
 use serde_json::Value;
 use std::alloc::{AllocError, Global};
 use table_store::NamedFile;

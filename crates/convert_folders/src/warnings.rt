@@ -1,11 +1,11 @@
 //! What a draft says to the publisher of a file that is converted.
 use cell_types::Datatype;
 use convert_report::{Entry, Status};
-use schema_inference::{Guess, Warning};
 use csvw_meta::Schema;
+use diagnostics::Line;
 use draft_warnings::{is_said, push_warning};
 use file_convert::{ColumnReport, ReportKind};
-use diagnostics::Line;
+use schema_inference::{Guess, Warning};
 use std::alloc::{AllocError, Global};
 use table_store::NamedFile;
 

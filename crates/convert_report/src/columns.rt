@@ -1,7 +1,7 @@
 //! What is changed in a column.
 use crate::entry::{Entry, Status};
 use crate::forms::form_words;
-use file_convert::{ColumnReport, ReportKind, NULLS};
+use file_convert::{ColumnReport, NULLS, ReportKind};
 use std::alloc::{AllocError, Global};
 use std::str::from_utf8;
 

@@ -1,8 +1,8 @@
 //! An entry of a report.
 use csv_records::RecordFault;
 use file_convert::ConvertFault;
-use text_escapes::escaped;
 use std::alloc::{AllocError, Global};
+use text_escapes::escaped;
 
 /// What an entry says.
 #[derive(Clone, Copy, PartialEq, Eq)]

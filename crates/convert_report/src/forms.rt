@@ -1,5 +1,5 @@
 //! The words for forms.
-use value_forms::{DayForm, Form, NumberForm, DateOrder, Scale};
+use value_forms::{DateOrder, DayForm, Form, NumberForm, Scale};
 
 /// Returns what numbers look like by their marks.
 fn marks_words(form: NumberForm<'_>) -> &'static str {

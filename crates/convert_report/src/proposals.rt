@@ -1,7 +1,7 @@
 //! What would be changed in a column if it were asked for.
 use crate::columns::{column_entry, difference_text};
 use crate::entry::{Entry, Status};
-use file_convert::{ColumnReport, ReportKind, NULLS};
+use file_convert::{ColumnReport, NULLS, ReportKind};
 use std::alloc::{AllocError, Global};
 use std::str::from_utf8;
 

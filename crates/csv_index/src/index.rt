@@ -16,9 +16,9 @@ use crate::parts::{PART_ROWS, Parts};
 use crate::reading::Reading;
 use crate::structure::{Structure, begin, read_on};
 use crate::utf8::check_text;
+use csv_fields::{Raw, between, piece};
 use csv_grammar::mark_len;
 use lane_class::BLOCK;
-use csv_fields::{Raw, between, piece};
 use std::alloc::{AllocError, Global};
 use std::marker::Model;
 

@@ -17,11 +17,11 @@ mod structure;
 mod utf8;
 mod widths;
 
+pub use csv_fields::Raw;
 pub use fault::TextFault;
 pub use fields::Fields;
 pub use index::Index;
 pub use indexed_text::IndexedText;
 pub use indexing::{Indexed, Indexing};
 pub use parts::{PART_ROWS, Parts};
-pub use csv_fields::Raw;
 pub use utf8::text_of;

@@ -1,8 +1,8 @@
 //! Metadata with the tables and the columns that it does not have yet.
 use cell_types::Column;
-use schema_inference::{column_json, next_name, table_json};
 use csvw_meta::Schema;
 use json_splice::{Splice, items_at, member_at, spliced};
+use schema_inference::{column_json, next_name, table_json};
 use std::alloc::{AllocError, Global};
 use std::mem::replace;
 

@@ -5,7 +5,7 @@ use crate::status::{DEVICE, DONE, MEMORY, USAGE, status_of};
 use crate::told::status_after;
 use cli_args::{ArgsFault, line_of, system_words};
 use convert_folders::convert_folder;
-use draft_args::{USAGE_LINE, DraftCommand, read_words};
+use draft_args::{DraftCommand, USAGE_LINE, read_words};
 use std::io::{self, ErrorKind, IsTerminal};
 use std::rt::Files;
 
@@ -54,7 +54,11 @@ fn words_status(rt: &HostRuntime, words: Result<DraftCommand<'_>, ArgsFault>) ->
             end_of(rt, asks.folder, end)
         }
         Ok(DraftCommand::Show { folder }) => end_of(rt, folder, Ok(tell_folder(rt, folder, false))),
-        Ok(DraftCommand::Explain { folder }) => end_of(rt, folder, Ok(tell_folder(rt, folder, true))),
+        Ok(DraftCommand::Explain { folder }) => end_of(
+            rt,
+            folder,
+            Ok(tell_folder(rt, folder, true)),
+        ),
         Ok(DraftCommand::Convert(asks)) => end_of(rt, asks.folder, convert_folder(rt, &asks)),
         Err(ArgsFault::Shows(text)) => status_after(text.print(rt), DONE),
         Err(ArgsFault::Usage) => usage_status(rt),

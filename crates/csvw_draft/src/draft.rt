@@ -5,9 +5,9 @@ use crate::left_out::{refuse_files, warn_of_left_out};
 use crate::status::{DONE, MEMORY, status_of};
 use crate::told::{SEE_EXPLAIN, print_text, refuse_cause, refuse_for, status_after};
 use crate::warning::warn_of;
-use schema_inference::{Aims, DraftFault, accepted_text, draft_of, guess_of};
 use csvw_meta::{Limits, MetaFault, Schema, Schemas};
 use draft_args::DraftOptions;
+use schema_inference::{Aims, DraftFault, accepted_text, draft_of, guess_of};
 use served_folders::METADATA;
 use std::fs::File;
 use std::io::{self, ErrorKind, Write};
@@ -78,7 +78,12 @@ fn replace_metadata(rt: &HostRuntime, path: &str, text: &[u8]) -> io::Result<u8>
 }
 
 /// Gives the text of metadata: prints it, or writes it at a path; and returns the exit status.
-fn give_metadata(rt: &HostRuntime, asks: &DraftOptions<'_>, path: &str, text: &[u8]) -> io::Result<u8> {
+fn give_metadata(
+    rt: &HostRuntime,
+    asks: &DraftOptions<'_>,
+    path: &str,
+    text: &[u8],
+) -> io::Result<u8> {
     if asks.write && asks.add {
         return replace_metadata(rt, path, text);
     }

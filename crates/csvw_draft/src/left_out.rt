@@ -2,8 +2,8 @@
 use crate::status::{DONE, MEMORY, REFUSED};
 use crate::told::{refuse, status_after, tell};
 use csv_index::TextFault;
-use schema_inference::{Guess, LeftOut, LeftOutCause};
 use diagnostics::{Line, Report, cut, refuse_file};
+use schema_inference::{Guess, LeftOut, LeftOutCause};
 use std::io;
 use table_store::NamedFile;
 

@@ -1,8 +1,8 @@
 //! What the publisher of files should look at.
 use crate::told::tell;
-use schema_inference::Guess;
-use draft_warnings::{file_of, is_said, push_warning};
 use diagnostics::{Line, cut};
+use draft_warnings::{file_of, is_said, push_warning};
+use schema_inference::Guess;
 use std::io;
 use table_store::NamedFile;
 

@@ -2,8 +2,8 @@
 ghost use Rattle.std.specs.Prelude.{◌≡◌, IfOk, string_bytes};
 ghost use Rattle.csvw_meta.specs.Fault.{meta_fault_name, meta_fault_text};
 
-use text_escapes::escaped;
 use std::alloc::{AllocError, Global};
+use text_escapes::escaped;
 
 /// The first fault of the walk over metadata.
 #[derive(Drop)]

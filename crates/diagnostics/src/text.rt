@@ -5,9 +5,9 @@ ghost use Rattle.text_escapes.specs.Escapes.{escaped as escaped_text};
 ghost use Rattle.diagnostics.specs.Text.{cut_text, front_of, is_long, quoted_text, with_mark};
 
 use cell_types::DateForm;
-use text_escapes::escaped;
 use serde_json::Value;
 use std::alloc::{AllocError, Global};
+use text_escapes::escaped;
 
 /// The most characters of a text that stand in a line.
 pub const MOST_CHARACTERS: usize = 80;

@@ -5,4 +5,4 @@ mod conversion;
 mod words;
 
 pub use conversion::Conversion;
-pub use words::{DraftOptions, USAGE_LINE, DraftCommand, read_words};
+pub use words::{DraftCommand, DraftOptions, USAGE_LINE, read_words};

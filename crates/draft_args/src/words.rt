@@ -8,7 +8,7 @@ ghost use Rattle.draft_args.specs.DraftCommand.{LineAsksFor, AsksNot, AsksSo, Is
 use crate::conversion::{Conversion, conversion_of, convert_command};
 use clap::ArgMatches;
 use cli_args::{
-    VERSION, ArgsFault, add_command, add_flag, add_folder, add_folder_command, flag, matches_of,
+    ArgsFault, VERSION, add_command, add_flag, add_folder, add_folder_command, flag, matches_of,
     text, top_command,
 };
 use std::alloc::Global;

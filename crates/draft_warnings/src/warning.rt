@@ -1,8 +1,8 @@
 //! What the publisher of files should look at, and what helps.
 use crate::cells::{push_cell, push_count};
-use schema_inference::{Guess, Warning};
 use csvw_meta::Schema;
 use diagnostics::Line;
+use schema_inference::{Guess, Warning};
 use table_store::NamedFile;
 
 /// Returns what reads fields that a byte separates.

@@ -24,7 +24,11 @@ fn title_fault(lines: usize, skipped: usize) -> Option<ConvertFault> {
 }
 
 /// Returns what is seen of a text, or why it is not converted.
-fn sight_of(alloc: Global, asks: &ConvertOptions<'_>, source: &Source) -> Result<Sight, ConvertFault> {
+fn sight_of(
+    alloc: Global,
+    asks: &ConvertOptions<'_>,
+    source: &Source,
+) -> Result<Sight, ConvertFault> {
     let text = source.text.as_slice();
     let skipped = asks.skip_lines;
     let sight = match see_text(alloc, source.separator, text, skipped) {
@@ -60,7 +64,11 @@ fn no_output(alloc: Global, text: &[u8]) -> Result<Output, AllocError>
 }
 
 /// Returns a file as a table of RFC 4180 in UTF-8 whose cells have forms that CSVW reads, and all that is changed in it; or why it is none.
-pub fn convert(alloc: Global, asks: &ConvertOptions<'_>, bytes: Vec<u8>) -> Result<Converted, ConvertFault>
+pub fn convert(
+    alloc: Global,
+    asks: &ConvertOptions<'_>,
+    bytes: Vec<u8>,
+) -> Result<Converted, ConvertFault>
     ensures { IfOk result (IsConversion asks.now bytes.items) }
 {
     let decoded = text_of(alloc, bytes.as_slice())?;

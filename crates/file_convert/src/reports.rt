@@ -4,7 +4,7 @@ use crate::cells::cell_at;
 use crate::made::{has_time, is_dropped};
 use crate::report::{ColumnReport, ReportKind};
 use crate::sight::Sight;
-use column_forms::{Choice, Point, CellsSeen, Wants, choice_of, point_of};
+use column_forms::{CellsSeen, Choice, Point, Wants, choice_of, point_of};
 use std::alloc::{AllocError, Global};
 
 /// Returns which point the numbers of a file have, where its columns agree.
@@ -84,7 +84,8 @@ pub(crate) fn reports_of(
         let mut report = report_of(alloc, title, kind, seen)?;
         report.asked_null = null;
         report.rounds = wants.round;
-        report.is_text = wants.text || matches!(kind, ReportKind::TwoPoints | ReportKind::TwoOrders);
+        report.is_text = wants.text
+            || matches!(kind, ReportKind::TwoPoints | ReportKind::TwoOrders);
         reports.push(report).or(Err(AllocError))?;
     }
     drop_columns(columns, reports.as_mut_slice());

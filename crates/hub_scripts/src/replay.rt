@@ -9,9 +9,9 @@ ghost use Rattle.hub_scripts.specs.Replay.{IsAnsweredInLine, IsKeptFolder, IsLin
 
 use crate::answers::{done_line, opened_line, take_line, turned_line};
 use event_scripts::{Command, CommandFault, first_line, read_command, text_line};
+use exit_statuses::{ProgramFault, REFUSED, fault_line};
 use odata_http::{Sink, send};
 use odata_hub::{Conn, Hub};
-use exit_statuses::{ProgramFault, REFUSED, fault_line};
 use served_folders::{FolderFault, Folders};
 use std::alloc::Global;
 use std::rc::Rc;

@@ -2,8 +2,8 @@
 ghost use Rattle.std.specs.Prelude.{◌<◌, ◌^◌};
 ghost use Rattle.hub_scripts.specs.ScriptFile.{IsScriptRead};
 
-use odata_http::{RunFault, Source};
 use exit_statuses::MAX_READS;
+use odata_http::{RunFault, Source};
 use std::alloc::Global;
 
 /// The room for one read.

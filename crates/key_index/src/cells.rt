@@ -5,8 +5,8 @@ ghost use Rattle.key_index.specs.Key.{row_key, has_null as has_null_in};
 ghost use Rattle.key_index.specs.Keys.{typed_row};
 
 use cell_types::Value;
-use std::alloc::AllocError;
 use column_blocks::TypedColumn;
+use std::alloc::AllocError;
 
 /// Writes the key of a row over `key`: its values in the columns at `places`.
 pub fn write_key<'a>(

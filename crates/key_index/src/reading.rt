@@ -11,8 +11,8 @@ use crate::cells::{has_null, write_key};
 use crate::keys::{KeyFault, Keys, seat};
 use crate::rising::{Rise, rises_on};
 use crate::slots::FREE;
-use std::alloc::{AllocError, Global};
 use column_blocks::TypedColumn;
+use std::alloc::{AllocError, Global};
 
 /// How many rows a step reads: about a millisecond's, if their keys do not rise.
 const ROWS: usize = 4096;

@@ -6,6 +6,6 @@ mod words;
 
 pub use listens::{Listens, Obstacle, listens_of, unserved_line};
 pub use words::{
-    ADDRESS, HEAD_SECONDS, IDLE_SECONDS, MOST_PLACES, PLACES, QUERY_SECONDS, REPLY_SECONDS,
-    USAGE_LINE, ListenOptions, read_words, sizes,
+    ADDRESS, HEAD_SECONDS, IDLE_SECONDS, ListenOptions, MOST_PLACES, PLACES, QUERY_SECONDS,
+    REPLY_SECONDS, USAGE_LINE, read_words, sizes,
 };

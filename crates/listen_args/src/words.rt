@@ -9,7 +9,7 @@ ghost use Rattle.listen_args.specs.ListenOptions.{AreListenWords, AsksBy, IsFaul
 
 use clap::ArgMatches;
 use cli_args::{
-    FOLDER_HELP, VERSION, ArgsFault, add_flag, add_folder, add_number, add_port, add_text, flag,
+    ArgsFault, FOLDER_HELP, VERSION, add_flag, add_folder, add_number, add_port, add_text, flag,
     matches_of, number, port, text, top_command,
 };
 use std::alloc::Global;

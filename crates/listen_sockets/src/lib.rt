@@ -17,5 +17,5 @@ pub use lingering::{Lingering, LingeringPeer};
 pub use peer::Peer;
 pub use poller::Poller;
 pub use server::Server;
-pub use slow::{Due, TimeLimits, Seen, Taking, Times};
+pub use slow::{Due, Seen, Taking, TimeLimits, Times};
 pub use sockets::{Sockets, Wire};

@@ -57,7 +57,10 @@ pub struct Poller {
 
 impl Poller {
     /// Over a listener. A connection may wait from the start.
-    pub fn new<R: Net + Clock + AllocGlobal>(rt: &R, mut listener: ListeningSocket) -> io::Result<Poller>
+    pub fn new<R: Net + Clock + AllocGlobal>(
+        rt: &R,
+        mut listener: ListeningSocket,
+    ) -> io::Result<Poller>
         ensures accepts { IfOk result (λ poller. poller.accepts ≡ true) }
         ensures looked { IfOk result (λ poller. poller.looked ≡ 0) }
     {

@@ -4,7 +4,7 @@ ghost use Rattle.odata_rounds.specs.Lives.{free_slot};
 
 use crate::lingering::Lingering;
 use crate::peer::Peer;
-use crate::slow::{Due, TimeLimits, Seen};
+use crate::slow::{Due, Seen, TimeLimits};
 use crate::sockets::Sockets;
 use mio::Poll;
 use odata_hub::{Conn, Hub, HubFault};

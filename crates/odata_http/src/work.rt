@@ -7,7 +7,7 @@ ghost use Rattle.odata_http.specs.declared.work.Work.TheVariants.{Failed};
 ghost use Rattle.odata_http.specs.Work.{IsAskedFor, MayWork, StartsWork, WorksOn, step_of};
 
 use crate::key_lookup::KeyLookup;
-use crate::query_run::{Reached, QueryRun};
+use crate::query_run::{QueryRun, Reached};
 use crate::response::{error_response, reply_of, service_response};
 use http_heads::Method;
 use odata_request::{Request, RowsRequest, keys_stand_alone};

@@ -1,6 +1,6 @@
 //! One connection.
 use crate::answers::{HubFault, Turned};
-use crate::flight::{InFlight, Gone, QueuedHead, cut_into};
+use crate::flight::{Gone, InFlight, QueuedHead, cut_into};
 use http_heads::{Splitter, Unreadable};
 use odata_http::{Output, reply_to_rest};
 use std::alloc::{AllocError, Global};

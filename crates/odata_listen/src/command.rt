@@ -9,11 +9,12 @@ use crate::drain::Drain;
 use crate::folder::Folder;
 use crate::serving::{Service, serve};
 use cli_args::{ArgsFault, line_of, system_words};
-use listen_sockets::{TimeLimits, Server};
-use listen_args::{
-    Listens, MOST_PLACES, Obstacle, USAGE_LINE, ListenOptions, listens_of, read_words, unserved_line,
-};
 use exit_statuses::{DEVICE, DONE, MEMORY, ProgramFault, USAGE, error_status, report};
+use listen_args::{
+    ListenOptions, Listens, MOST_PLACES, Obstacle, USAGE_LINE, listens_of, read_words,
+    unserved_line,
+};
+use listen_sockets::{Server, TimeLimits};
 use served_folders::FolderFault;
 use service_log::Log;
 use socket_listener::ListeningSocket;
@@ -100,7 +101,11 @@ fn bind(rt: &HostRuntime, at: &Listens<'_>) -> io::Result<ListeningSocket> {
 }
 
 /// Says where it listens: the path, or the address and port that the system reports.
-fn say_listening(rt: &HostRuntime, words: &ListenOptions<'_>, listener: &ListeningSocket) -> io::Result<()> {
+fn say_listening(
+    rt: &HostRuntime,
+    words: &ListenOptions<'_>,
+    listener: &ListeningSocket,
+) -> io::Result<()> {
     if let Some(path) = words.unix {
         return rt.println(format!(in rt.alloc(); "listening {path}")?);
     }

@@ -4,7 +4,7 @@ ghost use Rattle.std.specs.Prelude.{◌≡◌};
 ghost use Rattle.listen_sockets.specs.Server.{state_at};
 ghost use Rattle.odata_listen.specs.Serving.{CountsSent, CountsWork, DoesDue, EndsSlow, Frees, Notes, RunsOn, Settles};
 
-use listen_sockets::{Due, TimeLimits, Poller, Server};
+use listen_sockets::{Due, Poller, Server, TimeLimits};
 use mio::Poll;
 use odata_rounds::SlotState;
 use service_log::{CloseReason, Log};

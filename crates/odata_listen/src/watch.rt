@@ -3,8 +3,8 @@ ghost use Rattle.std.specs.Prelude.{◌≡◌};
 ghost use Rattle.odata_listen.specs.Laws.{WorkedPauses};
 ghost use Rattle.odata_listen.specs.Watch.{HandsOver, IsSize, Looks, is_final, next_pause};
 
-use odata_hub::Hub;
 use exit_statuses::ProgramFault;
+use odata_hub::Hub;
 use served_folders::FolderFault;
 use service_log::LoadSummary;
 use std::alloc::Global;

@@ -3,11 +3,11 @@ ghost use Rattle.std.specs.Prelude.{◌≡◌};
 ghost use Rattle.odata_request.specs.Fault.{fault_of, head_code, lex_code, parse_code, type_code, url_code};
 
 use http_heads::HeadFault;
+use odata_errors::Code;
 use odata_lex::LexFault;
 use odata_parse::{ParseFault, Syntax};
 use odata_types::TypeFault;
 use odata_url::UrlFault;
-use odata_errors::Code;
 
 /// Why no request is made.
 #[derive(Clone, Copy)]

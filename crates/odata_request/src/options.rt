@@ -5,9 +5,9 @@ ghost use Rattle.odata_request.specs.Options.{asked_format, format_in, option_fa
 ghost use Rattle.odata_request.specs.Resource.{resource_view};
 
 use crate::resource::Resource;
+use odata_errors::Code;
 use odata_parse::{Format, parse_format};
 use odata_url::OptionName;
-use odata_errors::Code;
 
 /// Returns the code under which an option is refused whatever its value is, if it does not fit what the path leads to.
 fn option_fault(resource: Resource<'_>, option: OptionName) -> Option<Code>

@@ -11,10 +11,10 @@ use crate::options::{Texts, asked_format, options_fault};
 use crate::query::typed_query;
 use crate::resource::{Resource, resource_of};
 use http_heads::HeadFault;
+use odata_errors::Code;
 use odata_parse::Format;
 use odata_query::Typed;
 use odata_url::{OptionName, Target};
-use odata_errors::Code;
 use std::alloc::{AllocError, Global};
 use table_store::Catalog;
 

@@ -3,8 +3,8 @@ ghost use Rattle.std.specs.Prelude.{◌≡◌, ◌<◌, ◌^◌, IfOk, string_by
 ghost use Rattle.odata_serve.specs.Check.{AreListed, IsCheck, table_line};
 ghost use Rattle.served_folders.specs.Loads.{loading};
 
-use odata_http::{Sink, send};
 use exit_statuses::ProgramFault;
+use odata_http::{Sink, send};
 use served_folders::Folders;
 use std::alloc::{AllocError, Global};
 use table_store::Table;

@@ -11,12 +11,12 @@ mod words;
 
 pub use check::check_folder;
 pub use command::{command_status, line_status, unread_status, usage_status};
-pub use hub_scripts::{plays_schedule, replay_script};
-pub use listener::{CountedListener, Listener};
-pub use program::{answer, query, request_to, sizes};
 pub use exit_statuses::{
     DEVICE, DONE, MEMORY, ProgramFault, REFUSED, USAGE, error_status, fault_line, report,
 };
+pub use hub_scripts::{plays_schedule, replay_script};
+pub use listener::{CountedListener, Listener};
+pub use program::{answer, query, request_to, sizes};
 pub use served_folders::{BuiltIn, Disk, FolderFault, Folders, NOTES};
 pub use serving::serve;
 pub use words::{Words, WordsFault, read_words};

@@ -5,8 +5,8 @@ ghost use Rattle.odata_http.specs.Reply.{IsReply};
 ghost use Rattle.odata_http.specs.Runs.{course};
 ghost use Rattle.odata_serve.specs.Listener.{CountsAnswer, IsConnection, ListenerOf, new_listener};
 
-use odata_http::{Counted, DeviceFault, RunFault, Sink, Source, run};
 use exit_statuses::{MAX_READS, ProgramFault};
+use odata_http::{Counted, DeviceFault, RunFault, Sink, Source, run};
 use std::alloc::Global;
 use std::io;
 use std::net::{Ipv4Addr, Net, TcpListener, TcpStream};

@@ -6,8 +6,8 @@ ghost use Rattle.odata_serve.specs.Laws.{ServeSizes};
 ghost use Rattle.odata_serve.specs.Program.{IsAnswer, IsQuery, request_to};
 ghost use Rattle.served_folders.specs.Loads.{loading};
 
-use odata_http::{Counted, Sink, Source, run};
 use exit_statuses::{MAX_READS, ProgramFault};
+use odata_http::{Counted, Sink, Source, run};
 use served_folders::Folders;
 use std::alloc::{AllocError, Global};
 

@@ -3,8 +3,8 @@ ghost use Rattle.std.specs.Prelude.{◌≡◌};
 ghost use Rattle.odata_serve.specs.Serving.{AnswersInTurn, IsServed, IsTold, serving};
 
 use crate::listener::Listener;
-use odata_http::{Sink, send};
 use exit_statuses::ProgramFault;
+use odata_http::{Sink, send};
 use std::alloc::Global;
 use table_store::Catalog;
 

@@ -8,9 +8,9 @@ ghost use Rattle.query_exec.specs.Sink.{HasPushed, SinkMakes, MayFinish, MayPush
 use crate::intermediate::Intermediate;
 use crate::kept::Kept;
 use crate::names::aggregate_names;
+use aggregate_rows::Aggregator;
 use block_filter::Passed;
 use odata_query::NamedAggregate;
-use aggregate_rows::Aggregator;
 use row_selection::Selection;
 use std::alloc::{AllocError, Global};
 use table_store::Block;
@@ -63,7 +63,8 @@ impl AggregateSink {
             return Ok(());
         }
         self.kept.take(alloc, block, Selection::all(block.rows()))?;
-        self.aggregator.join(alloc, &self.kept.columns, &found.rows)?;
+        self.aggregator
+            .join(alloc, &self.kept.columns, &found.rows)?;
         self.kept.columns.clear();
         Ok(())
     }

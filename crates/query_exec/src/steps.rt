@@ -11,11 +11,11 @@ ghost use Rattle.query_exec.specs.Intermediate.{aggregate_node, intermediate_vie
 
 use crate::intermediate::Intermediate;
 use crate::names::aggregate_names;
+use aggregate_rows::gathered;
 use odata_query::{NamedAggregate, OrderBy};
 use query_plan::Node;
 use result_rows::picked_names;
 use row_eval::EvalFault;
-use aggregate_rows::gathered;
 use sort_rows::{best_numbers, passing_numbers, piece, sorted_numbers};
 use std::alloc::{AllocError, Global};
 use std::mem;

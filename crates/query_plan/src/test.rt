@@ -11,8 +11,8 @@ use cell_types::Value;
 use odata_types::{MOST_SIZE, scaled};
 use std::alloc::{AllocError, Global};
 use std::borrow::CowStr;
-use zone_maps::{comparison_of, number_value};
 use typed_trees::{ComparisonOperator, MILLIONTHS, NumberExpr, NumberKind, TextExpr, TruthExpr};
+use zone_maps::{comparison_of, number_value};
 
 /// Returns a number after a `-`, if it is at most 2 to the 126 in size.
 fn opposite(number: i128) -> Option<Option<i128>>

@@ -6,9 +6,9 @@ ghost use Rattle.reply_text.specs.Body.{entry_text, error_text, named_text, row_
 ghost use Rattle.reply_values.specs.Size.{told};
 
 use crate::json_rows::{push_comma, push_opening, push_row, push_rows};
-use result_rows::Rows;
 use odata_errors::Code;
 use reply_values::{push_number, push_text, push_text_member, text_member_size};
+use result_rows::Rows;
 use std::alloc::{AllocError, Global};
 use table_store::{Catalog, Table};
 

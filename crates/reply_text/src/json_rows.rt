@@ -9,8 +9,8 @@ ghost use Rattle.reply_values.specs.Size.{told};
 use crate::json_sizes::frame_size;
 use crate::put_rows::put_item;
 use cell_texts::json_cell_room;
-use result_rows::Rows;
 use reply_values::{push_number, push_text};
+use result_rows::Rows;
 use std::alloc::{AllocError, Global};
 
 /// Appends a comma before every item but the first.

@@ -12,8 +12,8 @@ ghost use Rattle.reply_values.specs.Size.{told};
 use crate::row_sizes::RowSizes;
 use crate::sizes::Sizes;
 use cell_texts::{json_cell_size, none_seen, read_ahead};
-use result_rows::Rows;
 use reply_values::{number_size, text_size};
+use result_rows::Rows;
 use row_columns::Columns;
 
 /// Returns how many bytes names take, each with its colon.

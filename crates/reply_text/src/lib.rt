@@ -24,8 +24,8 @@ pub use cursor::BodyCursor;
 pub use laws::{
     counts_are_lengths, csv_reads_back, json_reads_back, pieces_are_bodies, tables_fit_csv,
 };
+pub use odata_errors::Code;
 pub use output::Output;
 pub use reply::Reply;
-pub use odata_errors::Code;
 pub use reply_values::push_number;
 pub use row_sizes::RowSizes;

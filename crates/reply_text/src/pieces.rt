@@ -6,8 +6,8 @@ ghost use Rattle.reply_text.specs.Pieces.{csv_pieces, json_pieces};
 
 use crate::put_rows::{put_item, put_line, put_name_line};
 use cell_texts::read_ahead;
-use result_rows::Rows;
 use reply_values::put_piece;
+use result_rows::Rows;
 
 /// What a body is written from.
 #[derive(Drop)]

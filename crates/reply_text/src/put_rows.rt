@@ -8,8 +8,8 @@ ghost use Rattle.reply_values.specs.Csv.{csv_value};
 ghost use Rattle.reply_values.specs.Json.{json_value};
 
 use cell_texts::{put_csv_cell, put_json_cell};
-use result_rows::Rows;
 use reply_values::{put_byte, put_piece};
+use result_rows::Rows;
 use row_columns::Cell;
 
 /// Writes a comma before every item but the first.

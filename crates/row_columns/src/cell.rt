@@ -7,9 +7,9 @@ ghost use Rattle.row_columns.specs.Cell.{cell_view, IsDayOrNull};
 
 use block_summary::{PackedColumn, PackedType};
 use cell_types::Value;
+use column_blocks::BlockCells;
 use jiff_core::civil::Date;
 use text_columns::TextColumn;
-use column_blocks::BlockCells;
 
 /// A cell, as it is kept. It is as small as what it lends, so that a row is read without a [`Value`] between.
 #[derive(Clone, Copy, Drop)]

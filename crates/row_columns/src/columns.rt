@@ -11,8 +11,8 @@ ghost use Rattle.row_columns.specs.Picked.{kinds_at, numbered, values_at};
 ghost use Rattle.row_columns.specs.Store.{value_rows};
 ghost use Rattle.row_columns.specs.Text.{text_of_cell};
 
-use crate::row_ref::RowRef;
 use crate::row_numbers::RowNumbers;
+use crate::row_ref::RowRef;
 use crate::store::{Store, types_at, types_of};
 use block_summary::PackedColumn;
 use cell_types::{Column, Value};

@@ -4,9 +4,9 @@
 
 mod cell;
 mod columns;
-mod row_ref;
 mod piece;
 mod row_numbers;
+mod row_ref;
 mod store;
 mod turns;
 mod value_rows;

@@ -11,10 +11,10 @@ ghost use Rattle.row_columns.specs.Text.{text_of_cell};
 use crate::cell::{Cell, cell_in};
 use block_summary::PackedColumn;
 use cell_types::Value;
+use column_blocks::BlockCells;
 use std::alloc::{AllocError, Global};
 use std::marker::Model;
 use table_store::Block;
-use column_blocks::BlockCells;
 
 /// The cells of some columns of a block.
 #[derive(Drop)]

@@ -4,8 +4,8 @@ ghost use Rattle.csv_index.specs.Index.{FitsFile};
 use crate::file::FileTable;
 use crate::names::{next_name, titles_of};
 use cell_types::{Column, Datatype};
-use type_inference::Inference;
 use std::alloc::{AllocError, Global};
+use type_inference::Inference;
 
 /// Returns true if a header cell calls its column a version.
 fn is_version(cell: &str) -> bool {

@@ -11,12 +11,12 @@ use crate::key::is_key;
 use crate::looks::read_looks;
 use crate::rows::read_columns;
 use crate::warnings::{Warnings, column_warnings, day_warnings, header_warnings};
-use type_inference::Candidates;
 use csv_index::{Index, TextFault};
 use csvw_meta::{Limits, Schema, is_table_url, table_name};
 use simdutf8::compat::from_utf8;
 use std::alloc::{AllocError, Global};
 use table_store::NamedFile;
+use type_inference::Candidates;
 
 /// What files look like.
 #[derive(Drop)]

@@ -3,9 +3,9 @@ ghost use Rattle.csv_index.specs.Index.{FitsFile};
 
 use crate::file::FileTable;
 use cell_types::{CellFault, Column, Datatype, Value};
+use csv_fields::cell_value;
 use csv_index::{Fields, Raw};
 use insertion_map::KeyPlaces;
-use csv_fields::cell_value;
 use std::alloc::{AllocError, Global};
 
 /// The most bytes of a text in a key.

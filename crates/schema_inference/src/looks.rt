@@ -2,8 +2,8 @@
 ghost use Rattle.csv_index.specs.Index.{FitsFile};
 
 use crate::file::FileTable;
-use type_inference::{LOOK_COUNT, Look, NULL_WORDS, Inference, look_of, without_white};
 use std::alloc::{AllocError, Global};
+use type_inference::{Inference, LOOK_COUNT, Look, NULL_WORDS, look_of, without_white};
 
 /// One of this many cells may look different from the others.
 const ALIKE: usize = 20;

@@ -2,9 +2,9 @@
 ghost use Rattle.csv_index.specs.Index.{FitsFile};
 
 use crate::file::FileTable;
-use type_inference::{Candidates, Inference};
 use csv_index::Raw;
 use std::alloc::{AllocError, Global};
+use type_inference::{Candidates, Inference};
 
 /// The bytes of a field from which on it is not looked at for a text that may stand for null.
 const LONG: usize = 16;

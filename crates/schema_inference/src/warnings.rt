@@ -6,11 +6,11 @@ use crate::fault::Warning;
 use crate::file::FileTable;
 use crate::looks::Looks;
 use cell_types::{CellFault, Column, Datatype, DateForm, Value};
-use type_inference::{NULL_WORDS, Inference, are_digits, look_name};
+use csv_fields::cell_value;
 use csv_index::Raw;
 use csv_shapes::SEPARATORS;
-use csv_fields::cell_value;
 use std::alloc::{AllocError, Global};
+use type_inference::{Inference, NULL_WORDS, are_digits, look_name};
 
 /// What there is to look at so far. If memory runs out that is kept in it, so that a warning has no failure of its own.
 #[derive(Drop)]
@@ -83,7 +83,13 @@ fn is_year(cell: Raw<'_>) -> bool {
 }
 
 /// Adds what there is to look at in a column of texts, by its index.
-fn text_warnings(warnings: &mut Warnings, file: usize, col: usize, seen: &Inference, looks: &Looks) {
+fn text_warnings(
+    warnings: &mut Warnings,
+    file: usize,
+    col: usize,
+    seen: &Inference,
+    looks: &Looks,
+) {
     if seen.has_two_dates() {
         warnings.put(Warning::TwoDates { file, col });
     } else if !seen.is_text() && !seen.stays_text() {

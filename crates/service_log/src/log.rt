@@ -9,9 +9,9 @@ use crate::texts::{
     NOT_RELOADED, ended_line, minute_line, opened_line, refused_line, reloaded_line,
 };
 use crate::work::Work;
+use exit_statuses::ProgramFault;
 use libc::net::{POLLERR, POLLHUP, POLLNVAL, POLLOUT, poll};
 use libc::types::pollfd;
-use exit_statuses::ProgramFault;
 use std::alloc::AllocError;
 use std::io::{self, ErrorKind, Write};
 use std::os::fd::AsRawFd;

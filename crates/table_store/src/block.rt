@@ -14,11 +14,11 @@ ghost use Rattle.table_store.specs.Summaries.{IsSummaryOf};
 use crate::table::Table;
 use block_summary::{BLOCK_ROWS, PackedColumn, Summary};
 use cell_types::Value;
+use column_blocks::BlockCells;
 use csvw_meta::Schema;
 use std::alloc::{AllocError, Global};
 use std::marker::Model;
 use text_columns::TextColumn;
-use column_blocks::BlockCells;
 
 /// The rows of one block of a table.
 #[derive(Drop)]

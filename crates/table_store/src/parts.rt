@@ -5,9 +5,9 @@ ghost use Rattle.table_store.specs.Parts.{wrong_at, AllColumnsHaveValues, ArePar
 
 use crate::loading::BadCell;
 use cell_types::{CellFault, Column};
+use column_blocks::ColumnReader;
 use csv_fields::{Part, cell_value};
 use std::alloc::Global;
-use column_blocks::ColumnReader;
 
 /// Reads the rows of a part into the readers of their columns, column after column. An error means that memory ran out, or that a cell has no value.
 fn read_columns(

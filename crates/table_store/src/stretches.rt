@@ -13,9 +13,9 @@ use crate::loading::BadCell;
 use crate::parts::read_part;
 use block_summary::BLOCK_ROWS;
 use cell_types::{CellFault, Column};
+use column_blocks::{TypedColumn, column_readers, columns_read};
 use csv_index::IndexedText;
 use std::alloc::Global;
-use column_blocks::{TypedColumn, column_readers, columns_read};
 
 /// How many rows a stretch has: those of a block, which are read in about a millisecond.
 const STRETCH: usize = BLOCK_ROWS;

@@ -4,8 +4,8 @@ ghost use Rattle.block_summary.specs.declared.block.TheConstants.{BLOCK_ROWS};
 ghost use Rattle.table_store.specs.Summaries.{AreRangesAt, AreRangesByBlock};
 
 use block_summary::{BLOCK_ROWS, Summary};
-use std::alloc::{AllocError, Global};
 use column_blocks::TypedColumn;
+use std::alloc::{AllocError, Global};
 
 /// Returns the summary of the block of a number: the range of each column.
 fn summary_at(alloc: Global, columns: &[TypedColumn], number: usize) -> Result<Summary, AllocError>

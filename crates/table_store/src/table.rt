@@ -18,12 +18,12 @@ use crate::loading::{BadCell, TableFault};
 use crate::summaries::summaries_of;
 use block_summary::{BLOCK_ROWS, PackedColumn, Summary};
 use cell_types::Value;
+use column_blocks::{BlockCells, TypedColumn};
 use csvw_meta::Schema;
 use key_index::{KeyFault, KeyedRows, Keys};
 use std::alloc::{AllocError, Global};
 use std::marker::Model;
 use text_columns::TextColumn;
-use column_blocks::{BlockCells, TypedColumn};
 
 /// A table: the cells of each of its columns, by blocks of rows. Nothing of its file is kept beside them.
 #[derive(Drop)]

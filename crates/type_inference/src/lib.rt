@@ -5,15 +5,15 @@
 
 mod cells;
 mod form;
+mod inference;
 mod look;
 mod reading;
-mod inference;
 mod steps;
 mod types;
 
 pub use cells::{are_digits, without_white};
 pub use form::CellForm;
+pub use inference::Inference;
 pub use look::{LOOK_COUNT, Look, look_name, look_of};
 pub use reading::{CellReading, reading_in};
-pub use inference::Inference;
 pub use types::{Candidates, NULL_WORDS};

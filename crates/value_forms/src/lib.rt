@@ -14,7 +14,7 @@ mod time;
 mod truth;
 mod unit;
 
-pub use date::{DayForm, DateOrder, day_text};
+pub use date::{DateOrder, DayForm, day_text};
 pub use form::{Form, Made, NumberForm, Scale, made_by};
 pub use laws::{rounds_half_to_even, worked_dates, worked_numbers, worked_truths};
 pub use number::{Marks, number_text};
