@@ -53,7 +53,8 @@ pub(crate) fn row_of(
     accumulators: &Vec<Accumulator>,
     aggregates: &[Aggregate],
 ) -> Result<Vec<Value<'static>>, AllocError>
-    requires { (rows : List (List CellValue)) × AreAccumulators aggregates.now rows accumulators.now.items }
+    requires { (rows : List (List CellValue))
+        × AreAccumulators aggregates.now rows accumulators.now.items }
     ensures { IfOk result (λ row. IsRowOfAccumulators (map value_view key.now) aggregates.now
         accumulators.now.items (map value_view row.items)) }
 {
