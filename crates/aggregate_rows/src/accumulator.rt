@@ -24,9 +24,9 @@ use std::alloc::{AllocError, Global};
 pub(crate) enum Accumulator {
     /// The number of the rows.
     Count(u64),
-    /// The sum of their numbers, where they have any.
+    /// The sum of their numbers, if they have any.
     Sum(Option<i128>),
-    /// The least or the greatest of their values; null where they have none.
+    /// The least or the greatest of their values; null if they have none.
     Extreme(Value<'static>),
     /// Their values, each once.
     Distinct(KeyPlaces<Value<'static>>),

@@ -145,7 +145,7 @@ impl Groups {
         Ok(())
     }
 
-    /// Returns the group of a key. One of no rows comes after the others where the key is none of theirs; the key is looked up before it is copied.
+    /// Returns the group of a key. One of no rows comes after the others if the key is none of theirs; the key is looked up before it is copied.
     pub(crate) fn group_of(
         &mut self,
         alloc: Global,

@@ -11,7 +11,7 @@ use number_kernels::{Fallback, Numbers, join, join_fitting};
 use std::alloc::Global;
 use typed_trees::ArithmeticOperator;
 
-/// A number or null for each row, and two numbers between which all lie, where such are known.
+/// A number or null for each row, and two numbers between which all lie, if such are known.
 #[derive(Drop)]
 pub struct Bounded<'a> {
     pub numbers: Numbers<'a>,

@@ -60,7 +60,7 @@ pub fn packed_in<'a>(
     Some(column)
 }
 
-/// The numbers of a column with its nulls, and two numbers between which the others lie, where such are known.
+/// The numbers of a column with its nulls, and two numbers between which the others lie, if such are known.
 #[derive(Drop)]
 pub struct Unpacked {
     pub values: Vec<i64>,

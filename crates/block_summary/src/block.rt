@@ -2,7 +2,7 @@
 
 ghost use Rattle.std.specs.Prelude.{◌≡◌};
 
-/// How many rows a block of a table has; the last block has fewer where they do not fill it.
+/// How many rows a block of a table has; the last block has fewer if they do not fill it.
 pub const BLOCK_ROWS: usize = 4096;
 
 /// A block has 4,096 rows.

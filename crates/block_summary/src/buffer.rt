@@ -180,7 +180,7 @@ fn plain_number(column: &Column, packed_type: PackedType, text: &str) -> Option<
     }
 }
 
-/// Returns the number of a text in a column that is none of texts, or null where the text is null.
+/// Returns the number of a text in a column that is none of texts, or null if the text is null.
 pub fn read_number(
     alloc: Global,
     column: &Column,

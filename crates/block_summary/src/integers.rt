@@ -26,7 +26,7 @@ pub struct Integers {
     sum: i128,
     /// What the offsets are added to.
     least: i64,
-    /// Which rows are null; nothing where none is.
+    /// Which rows are null; nothing if none is.
     nulls: Vec<bool>,
     offsets: Offsets,
 }
@@ -161,7 +161,7 @@ impl Integers {
         }
     }
 
-    /// The least and the greatest number; none where each row is null.
+    /// The least and the greatest number; none if each row is null.
     pub fn bounds(&self) -> Option<Bounds>
         ensures { HaveBounds result self.now }
     {

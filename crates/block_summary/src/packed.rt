@@ -97,7 +97,7 @@ impl PackedColumn {
         self.numbers.unpack_nulls(out);
     }
 
-    /// The least and the greatest number; none where each row is null.
+    /// The least and the greatest number; none if each row is null.
     pub fn bounds(&self) -> Option<Bounds>
         ensures { HaveBounds result (numbers_of self.now) }
     {

@@ -10,7 +10,7 @@ use diagnostics::push_value;
 use reply_values::push_number;
 use std::alloc::{AllocError, Global};
 
-/// Bytes that grow. Where memory runs out that is kept in them, so that a piece has no failure of its own.
+/// Bytes that grow. If memory runs out that is kept in them, so that a piece has no failure of its own.
 #[derive(Drop)]
 pub struct Sheet {
     pub alloc: Global,
@@ -65,7 +65,7 @@ impl Sheet {
         self.keep(pushed);
     }
 
-    /// The bytes, where memory has not run out.
+    /// The bytes, if memory has not run out.
     pub fn end(self) -> Result<Vec<u8>, AllocError>
         ensures { IfOk result (λ bytes. (self.is_short ≡ false) × (bytes ≡ self.bytes)) }
     {

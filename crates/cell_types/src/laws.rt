@@ -18,7 +18,7 @@ pub fn strings_have_values()
     ensures { StringsHaveValues }
 {}
 
-/// The value of a text in a column is of the column's datatype, or null where the column does not require one.
+/// The value of a text in a column is of the column's datatype, or null if the column does not require one.
 pub fn values_fit_columns()
     ensures { ValuesFitColumns }
 {}

@@ -16,7 +16,7 @@ pub enum ArgsFault {
     NoMemory,
 }
 
-/// Returns why there is nothing to do, where `clap` fails.
+/// Returns why there is nothing to do, if `clap` fails.
 pub(crate) fn fault_by(error: Error) -> ArgsFault
     ensures { IsFaultBy (kind_of error) result }
 {

@@ -121,7 +121,7 @@ impl TextReader {
         self.buffer.push_field(text, quoted, rest, true)
     }
 
-    /// Reads the field of the next row, where the empty text alone is null: no text is compared. `rest` is the file from the field's bytes on.
+    /// Reads the field of the next row, if the empty text alone is null: no text is compared. `rest` is the file from the field's bytes on.
     #[inline(always)]
     fn read_plain(
         &mut self,
@@ -143,7 +143,7 @@ impl TextReader {
         Ok(())
     }
 
-    /// Reads the fields of a column in the rows of a part, where the empty text alone is null.
+    /// Reads the fields of a column in the rows of a part, if the empty text alone is null.
     fn read_plain_part(
         &mut self,
         alloc: Global,

@@ -16,7 +16,7 @@ use text_columns::TextColumn;
 /// The cells of a column of a table, block by block.
 #[derive(Drop)]
 pub struct TypedColumn {
-    /// What the numbers of the cells stand for, where they are no texts.
+    /// What the numbers of the cells stand for, if they are no texts.
     pub(crate) packed_type: Option<PackedType>,
     pub(crate) blocks: Vec<BlockCells>,
 }

@@ -100,7 +100,7 @@ fn add_column(
     splices.push(Splice { at, text }).or(Err(AllocError))
 }
 
-/// Adds the columns of a drafted schema that the schema of a file does not have, where the header of the file has them.
+/// Adds the columns of a drafted schema that the schema of a file does not have, if the header of the file has them.
 fn add_columns(
     alloc: Global,
     json: &[u8],

@@ -14,13 +14,13 @@ use std::io::{self, ErrorKind, Write};
 use std::rt::Files;
 use table_store::{LoadFault, NamedFile};
 
-/// What is said where the metadata would be written over.
+/// What is said if the metadata would be written over.
 const NOT_WRITTEN: &str = "csv-metadata.json: the folder has one, which stays as it is";
 
-/// What is said where no file is drafted.
+/// What is said if no file is drafted.
 const NO_TABLES: &str = "no file of the folder is a table that is served";
 
-/// What is said where more are drafted than are served.
+/// What is said if more are drafted than are served.
 const TOO_MANY_TABLES: &str = "accepted: 256 files at most";
 
 /// What is said after the cause of a draft that the service refuses.
@@ -38,7 +38,7 @@ fn refuse_fault(rt: &HostRuntime, fault: &DraftFault, add: bool) -> u8 {
     }
 }
 
-/// Writes a text into the file of that path, which is taken away where it is not written whole; and gives the exit status.
+/// Writes a text into the file of that path, which is taken away if it is not written whole; and gives the exit status.
 fn fill_file(rt: &HostRuntime, path: &str, mut file: File, text: &[u8]) -> u8 {
     match file.write_all(text) {
         Ok(()) => status_after(println!(rt; "wrote {path}"), DONE),

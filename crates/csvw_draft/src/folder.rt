@@ -126,7 +126,7 @@ fn warn_other(rt: &HostRuntime, name: &str) -> io::Result<()> {
     eprintln!(rt; "warning: {name}: left out: no plain file")
 }
 
-/// The bytes of the plain file of a name in a folder; of a file above the limit its front alone. Where someone looks on, it tells of a long one. What is no plain file is
+/// The bytes of the plain file of a name in a folder; of a file above the limit its front alone. If someone looks on, it tells of a long one. What is no plain file is
 /// an invalid input.
 pub fn file_in(rt: &HostRuntime, folder: &str, name: &str, tells: bool) -> io::Result<Vec<u8>> {
     let path = path_in(rt.alloc(), folder, name)?;

@@ -1,7 +1,7 @@
 //! The exit statuses of the program.
 use std::io::{self, ErrorKind};
 
-/// The exit status where all was done.
+/// The exit status if all was done.
 pub const DONE: u8 = 0;
 
 /// The exit status of a refused folder.
@@ -10,7 +10,7 @@ pub const REFUSED: u8 = 1;
 /// The exit status of words that are no command of the program.
 pub const USAGE: u8 = 2;
 
-/// The exit status where a file can't be read or written, or is no plain file.
+/// The exit status if a file can't be read or written, or is no plain file.
 pub const DEVICE: u8 = 3;
 
 /// The exit status if memory runs out.

@@ -75,7 +75,7 @@ pub(crate) fn check_column<'v>(earlier: &'v [Value], column: &'v Value) -> Resul
     }
 }
 
-/// Returns what a column says, where that schema, that table and that group are around it.
+/// Returns what a column says, with that schema, that table and that group around it.
 pub(crate) fn make_column(
     alloc: Global,
     schema: &Value,

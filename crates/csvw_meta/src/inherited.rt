@@ -43,7 +43,7 @@ pub(crate) fn check_inherited<'v>(level: &'v Value) -> Result<(), Refusal<'v>>
     )
 }
 
-/// Returns the texts that stand for null: the empty one where no level says any.
+/// Returns the texts that stand for null: the empty one if no level says any.
 pub(crate) fn make_nulls(alloc: Global, nulls: Option<&Value>) -> Result<Vec<String>, AllocError>
     ensures { IfOk result (λ made. map string_bytes made.items
         ≡ nulls_of (option_map (λ v. view v.now) nulls.entry)) }
@@ -58,7 +58,7 @@ pub(crate) fn make_nulls(alloc: Global, nulls: Option<&Value>) -> Result<Vec<Str
     }
 }
 
-/// Returns what an empty text stands for: the empty text where no level says another.
+/// Returns what an empty text stands for: the empty text if no level says another.
 pub(crate) fn make_default(alloc: Global, default: Option<&Value>) -> Result<String, AllocError>
     ensures { IfOk result
         (λ made. string_bytes made ≡ default_of (option_map (λ v. view v.now) default.entry)) }
@@ -66,7 +66,7 @@ pub(crate) fn make_default(alloc: Global, default: Option<&Value>) -> Result<Str
     String::from_str(alloc, default.and_then(Value::as_str).unwrap_or(""))
 }
 
-/// True if a value is required: not where no level says so.
+/// True if a value is required: not if no level says so.
 pub(crate) fn is_required(required: Option<&Value>) -> bool
     ensures { result ≡ required_of (option_map (λ v. view v.now) required.entry) }
 {

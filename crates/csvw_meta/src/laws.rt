@@ -15,7 +15,7 @@ pub fn schemas_or_cause()
     ensures { SchemasOrCause }
 {}
 
-/// Two faults that say the same are the same: so a cause, which is what a fault says, identifies the fault. Two with the same text are the same where no
+/// Two faults that say the same are the same: so a cause, which is what a fault says, identifies the fault. Two with the same text are the same if no
 /// backslash stands in their keys; else one key may have a control character where the other has its escape. The text of each fault is one line,
 /// whatever the metadata has.
 pub fn texts_tell_faults_apart()
@@ -36,7 +36,7 @@ pub fn nearest_level()
     ensures { NearestLevel }
 {}
 
-/// In accepted metadata what each level says is of its form, also where a nearer level says another.
+/// In accepted metadata what each level says is of its form, also if a nearer level says another.
 pub fn levels_are_of_form()
     ensures { LevelsAreOfForm }
 {}

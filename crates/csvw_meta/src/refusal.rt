@@ -6,7 +6,7 @@ ghost use Rattle.csvw_meta.specs.Refusal.{IsFaultOf, condition_of, ensure as ens
 use crate::fault::MetaFault;
 use std::alloc::Global;
 
-/// The fault of a condition that is not met, where the name of what is not served is borrowed.
+/// The fault of a condition that is not met; the name of what is not served is borrowed.
 #[derive(Drop)]
 pub(crate) enum Refusal<'a> {
     Unsupported(&'a str),
@@ -39,7 +39,7 @@ pub(crate) fn ensure<'a>(test: bool, fault: MetaFault) -> Result<(), Refusal<'a>
     }
 }
 
-/// That the test is true, where else the member or the datatype of that name is not served.
+/// The test is true, or else the member or the datatype of that name is not served.
 pub(crate) fn ensure_served<'a>(test: bool, key: &'a str) -> Result<(), Refusal<'a>>
     ensures { condition_of result ≡ ensure_of test (unsupported key.now) }
 {

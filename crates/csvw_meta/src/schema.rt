@@ -29,7 +29,7 @@ pub struct Schema {
     pub name: String,
     /// In the order of the metadata, at least one.
     pub columns: Vec<Column>,
-    /// The places of the key's columns, counted from 0; empty where the table has no key.
+    /// The places of the key's columns, counted from 0; empty if the table has no key.
     pub key: Vec<usize>,
 }
 
@@ -106,7 +106,7 @@ pub(crate) fn check_schema<'v>(
     }
 }
 
-/// Returns what the columns of a schema say, where that table and that group are around it.
+/// Returns what the columns of a schema say, with that table and that group around it.
 pub(crate) fn make_columns(
     alloc: Global,
     schema: &Value,

@@ -4,7 +4,7 @@ ghost use Rattle.std.specs.Prelude.{◌≡◌, ◌++◌, ◌⊎◌, true, string
 use crate::text::quoted;
 use std::alloc::{AllocError, Global};
 
-/// A text that grows. Where memory runs out that is kept in it, so that a piece has no failure of its own.
+/// A text that grows. If memory runs out that is kept in it, so that a piece has no failure of its own.
 #[derive(Drop)]
 pub struct Line {
     pub alloc: Global,

@@ -11,7 +11,7 @@ use csvw_meta::{MOST_COLUMNS, MOST_TABLES, MetaFault};
 use serde_json::Value;
 use table_store::LoadFault;
 
-/// What is looked at: the number of its table where that is one of a group, whether it is a schema or of one, and the number of its column where it is that.
+/// What is looked at: the number of its table if that is one of a group, whether it is a schema or of one, and the number of its column if it is that.
 #[derive(Clone, Copy)]
 struct Place {
     table: Option<usize>,
@@ -27,7 +27,7 @@ fn push_item(line: &mut Line, array: &str, number: Option<usize>) {
     }
 }
 
-/// Appends the path of a member, or of what is looked at where the key is empty.
+/// Appends the path of a member, or of what is looked at if the key is empty.
 fn push_path(line: &mut Line, place: Place, key: &str) {
     let key = match place {
         Place {
@@ -48,7 +48,7 @@ fn push_path(line: &mut Line, place: Place, key: &str) {
     }
 }
 
-/// Refuses a member of what is looked at, or all of it where the key is empty.
+/// Refuses a member of what is looked at, or all of it if the key is empty.
 fn refuse(report: &mut Report, place: Place, fault: MetaFault, key: &str, value: &Value) {
     let alloc = report.alloc;
     let accepted = accepted_metadata(&fault);

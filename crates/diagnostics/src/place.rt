@@ -3,7 +3,7 @@ use csv_index::Index;
 use csv_shapes::Records;
 use csvw_meta::Schema;
 
-/// The file of a schema as a table: its text, and where its fields stand there.
+/// The file of a schema as a table: its text, and the places of its fields there.
 #[derive(Drop)]
 pub struct TableFile<'a> {
     pub schema: &'a Schema,

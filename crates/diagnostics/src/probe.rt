@@ -5,7 +5,7 @@ use csvw_meta::{Limits, MetaFault, Schemas};
 use serde_json::Value;
 use std::alloc::Global;
 
-/// What stands before and after a further member of a group, in metadata of one table with one column. Of members with the same name the last counts: so a member counts where
+/// What stands before and after a further member of a group, in metadata of one table with one column. Of members with the same name the last counts: so a member counts if
 /// the name stands before it, and not where it stands after it, as those do that hold levels of their own.
 pub const IN_GROUP: &(&str, &str) = &(
     "{",

@@ -10,7 +10,7 @@ use table_store::LoadFault;
 /// The most refusals that are reported.
 pub const MOST_REFUSALS: usize = 20;
 
-/// The lines of what is refused so far. Where memory runs out that is kept in it, so that a refusal has no failure of its own.
+/// The lines of what is refused so far. If memory runs out that is kept in it, so that a refusal has no failure of its own.
 #[derive(Drop)]
 pub struct Report {
     pub alloc: Global,

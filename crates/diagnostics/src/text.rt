@@ -19,7 +19,7 @@ fn front(alloc: Global, text: &str) -> Result<String, AllocError>
     text.chars().take(MOST_CHARACTERS).collect(alloc)
 }
 
-/// Returns what stands in a line for a text, with three points after it where the text is cut.
+/// Returns what stands in a line for a text, with three points after it if the text is cut.
 fn marked(alloc: Global, front: &str, text: &str) -> Result<String, AllocError>
     ensures { IfOk result
         (λ line. string_bytes line ≡ with_mark (escaped_text front.now) (is_long text.now)) }

@@ -150,7 +150,7 @@ fn matches_words<'a>(matches: &ArgMatches<'a>) -> Result<DraftCommand<'a>, ArgsF
     }
 }
 
-/// What the words of the command line ask for, of which the first is the program's own name. They are `Usage` only where `clap` finds a mistake in them, or they
+/// What the words of the command line ask for, of which the first is the program's own name. They are `Usage` only if `clap` finds a mistake in them, or they
 /// ask for nothing.
 pub fn read_words<'a>(alloc: Global, words: &'a [&'a str]) -> Result<DraftCommand<'a>, ArgsFault>
     ensures words { IfOk result (LineAsksFor (texts words.now)) }

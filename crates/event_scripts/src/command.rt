@@ -165,7 +165,7 @@ fn read_asked<'a>(alloc: Global, word: Word, text: &'a [u8]) -> Result<Command<'
     }
 }
 
-/// Returns the command that a line is. It is `Bad` exactly where the line is none. Only a `piece` takes memory.
+/// Returns the command that a line is. It is `Bad` exactly if the line is none. Only a `piece` takes memory.
 pub fn read_command<'a>(alloc: Global, line: &'a [u8]) -> Result<Command<'a>, CommandFault>
     ensures command { ReadsCommand (IsCommand line.entry.now) result }
     ensures memory { IfErr result (λ e. e ≡ CommandFault.NoMemory

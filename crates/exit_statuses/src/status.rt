@@ -7,7 +7,7 @@ use crate::fault::ProgramFault;
 use crate::text::{DEVICE, MEMORY, USAGE, fault_line};
 use std::io::{self, ErrorKind};
 
-/// The exit status where all was done.
+/// The exit status if all was done.
 pub const DONE: u8 = 0;
 
 /// Returns the exit status of an error of the system.

@@ -7,7 +7,7 @@ use crate::sight::Sight;
 use column_forms::{CellsSeen, Choice, Point, Wants, choice_of, point_of};
 use std::alloc::{AllocError, Global};
 
-/// Returns which point the numbers of a file have, where its columns agree.
+/// Returns which point the numbers of a file have, if its columns agree.
 fn file_point(columns: &[CellsSeen]) -> Point {
     let mut found = Point::Unknown;
     for seen in columns {

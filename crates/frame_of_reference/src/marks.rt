@@ -62,7 +62,7 @@ pub fn mark_eights(offsets: &[u64], low: u64, high: u64, out: &mut [bool])
     }
 }
 
-/// Takes the marks of the rows that are null away; where no mark of a null is kept, none is.
+/// Takes the marks of the rows that are null away; if no mark of a null is kept, none is.
 pub fn unmark_nulls(nulls: &[bool], out: &mut [bool])
     ensures { (i : ℕ) → i < length out.new → slice_index_or out.new i false
         ≡ (slice_index_or out.old i false && not (slice_index_or nulls.now i false)) }

@@ -79,7 +79,7 @@ fn is_closing(name: &[u8], value: &[u8]) -> bool
 /// What some fields say that decides how a head is answered.
 #[derive(Clone, Copy)]
 pub(crate) struct Said {
-    /// How many of them are Host fields; 2, where more are.
+    /// How many of them are Host fields; 2, if more are.
     hosts: u8,
     /// Whether a coding announces a body.
     is_coded: bool,

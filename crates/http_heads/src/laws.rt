@@ -11,12 +11,12 @@ pub fn one_cut()
     ensures { OneCut }
 {}
 
-/// Unless the connection closed, what follows a stream is cut as what follows its rest; where it closed, what follows is not cut.
+/// Unless the connection closed, what follows a stream is cut as what follows its rest; if it closed, what follows is not cut.
 pub fn cuts_join()
     ensures { CutsJoin }
 {}
 
-/// Where a rest is hopeless no head is cut off what follows, so the stream has the heads that it had, and a rest without a head.
+/// If a rest is hopeless no head is cut off what follows, so the stream has the heads that it had, and a rest without a head.
 pub fn hopeless_rests()
     ensures { HopelessRests }
 {}

@@ -15,7 +15,7 @@ mod slots;
 pub use keys::{KeyFault, Keys};
 pub use reading::{KeyStep, KeyedRows, KeysReading};
 
-/// Where no key has a null and no two are one, the row with the key of a row is that row.
+/// If no key has a null and no two are one, the row with the key of a row is that row.
 pub fn keys_find_rows()
     ensures { KeysFindRows }
 {

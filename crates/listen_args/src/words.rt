@@ -14,19 +14,19 @@ use cli_args::{
 };
 use std::alloc::Global;
 
-/// The address where none is asked for.
+/// The address if none is asked for.
 pub const ADDRESS: &str = "127.0.0.1";
 
-/// The number of places where none is asked for.
+/// The number of places if none is asked for.
 pub const PLACES: u32 = 64;
 
 /// The greatest number of places.
 pub const MOST_PLACES: u32 = 1_024;
 
-/// The seconds of a head where none are asked for.
+/// The seconds of a head if none are asked for.
 pub const HEAD_SECONDS: u32 = 30;
 
-/// The seconds of a connection that stands still where none are asked for.
+/// The seconds of a connection that stands still if none are asked for.
 pub const IDLE_SECONDS: u32 = 60;
 
 /// The default of `--query-seconds`.
@@ -84,7 +84,7 @@ pub fn sizes()
     ensures { ListenSizes }
 {}
 
-/// The options of the command line: a folder to serve, where to listen, how much a peer may take of the service, and what else to do.
+/// The options of the command line: a folder to serve, what to listen on, how much a peer may take of the service, and what else to do.
 #[derive(Clone, Copy)]
 pub struct ListenOptions<'a> {
     pub folder: &'a str,

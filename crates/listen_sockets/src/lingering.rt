@@ -94,7 +94,7 @@ impl Lingering {
         self.held.iter().any(|held| held.is_none())
     }
 
-    /// Where there is no room for one more, closes those whose peers have closed too.
+    /// If there is no room for one more, closes those whose peers have closed too.
     fn make_room(&mut self, room: &mut [u8])
         ensures len { length room.new ≡ length room.old }
         ensures held { MakesRoom self.old.held.items self.new.held.items }
@@ -107,7 +107,7 @@ impl Lingering {
         }
     }
 
-    /// Holds a socket open. If there is no room, those are closed whose peers have closed too; and where that leaves none, the one whose
+    /// Holds a socket open. If there is no room, those are closed whose peers have closed too; and if that leaves none, the one whose
     /// time is over first.
     pub fn hold(&mut self, peer: Peer, room: &mut [u8])
         ensures len { length room.new ≡ length room.old }

@@ -86,8 +86,8 @@ impl Poller {
         self.listener.close(&self.poll);
     }
 
-    /// Waits for events, and notes when that was. No stream ends by that, and each socket stays at its place. A connection may wait where
-    /// one did, and where the system says something of the listener.
+    /// Waits for events, and notes when that was. No stream ends by that, and each socket stays at its place. A connection may wait if
+    /// one did, or the system says something of the listener.
     pub fn wait<R: Clock>(&mut self, rt: &R, sockets: &mut Sockets, busy: bool) -> io::Result<()>
         ensures accepts { self.new.accepts
             ≡ (tells_listener (length sockets.old.wires.items) (events_of self.new.events)

@@ -13,7 +13,7 @@ use std::alloc::{AllocError, Global};
 use std::rc::Rc;
 use table_store::Catalog;
 
-/// The most bytes that are read at once where a peer's bytes are dropped.
+/// The most bytes that are read at once when a peer's bytes are dropped.
 const WASTE_BYTES: usize = 16_384;
 
 /// The most bytes that come to a connection at once: the heads of one piece are kept until each is answered, and the shortest take some fifteen times
@@ -134,7 +134,7 @@ impl Server {
         self.hub.drop_conn(Conn(place))
     }
 
-    /// Holds a socket open that was closed at its place, where its peer may still send. The system reports it no more: its place may have another.
+    /// Holds a socket open that was closed at its place, if its peer may still send. The system reports it no more: its place may have another.
     fn hold(&mut self, closed: Option<Peer>, poll: &Poll)
         ensures hub { self.new.hub ≡ self.old.hub }
         ensures slots { self.new.slots.items ≡ self.old.slots.items }

@@ -251,7 +251,7 @@ impl Sockets {
         self.wires[place].peer.take()
     }
 
-    /// Sends no more to the socket at a place, and gives it where its peer may still send. No other stream ends by that.
+    /// Sends no more to the socket at a place, and gives it if its peer may still send. No other stream ends by that.
     pub fn close(&mut self, place: u32, room: &mut [u8]) -> Option<Peer>
         ensures len { length room.new ≡ length room.old }
         ensures peer { IfSome result (λ peer. peer_at self.old.wires.items place ≡ Some peer) }

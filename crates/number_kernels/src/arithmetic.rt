@@ -195,7 +195,7 @@ fn exact_values(
     Ok(values)
 }
 
-/// Returns the sums, differences or products of numbers on the wanted rows, where they fit; null beside a null. None is checked.
+/// Returns the sums, differences or products of numbers on the wanted rows, if they fit; null beside a null. None is checked.
 pub fn compute_fitting<'a>(
     alloc: Global,
     operator: ExactOperator,

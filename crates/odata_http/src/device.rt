@@ -13,7 +13,7 @@ pub trait Source {
     /// The bytes that are left, if the device reports them, and its counts.
     ghost source: { Self → SourceOf };
 
-    /// Moves the next bytes into the front of the buffer, and answers how many: 0 only at the end, or where the buffer has no room.
+    /// Moves the next bytes into the front of the buffer, and answers how many: 0 only at the end, or if the buffer has no room.
     fn read(&mut self, buf: &mut [u8]) -> Result<usize, DeviceFault>
         ensures bound { ReadsAtMost result buf.new }
         ensures bytes { ReadConsumes (source self.old).left (source self.new).left result buf.new }

@@ -20,7 +20,7 @@ use table_store::Catalog;
 /// The answering of a head. It owns what the head asks for and the run of its query, and borrows nothing of the catalog between two calls.
 #[derive(Drop)]
 pub struct Exchange {
-    /// None where another method is refused.
+    /// None if another method is refused.
     method: Option<Method>,
     closes: bool,
     pub(crate) work: Work,

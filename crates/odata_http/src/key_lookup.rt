@@ -23,7 +23,7 @@ pub(crate) struct KeyLookup {
     pub(crate) table: usize,
     /// A value for each column of the table's key.
     pub(crate) key: Vec<Value<'static>>,
-    /// The numbers of the columns that are asked for, where not all are.
+    /// The numbers of the columns that are asked for, if not all are.
     pub(crate) select: Option<Vec<usize>>,
     /// The format of the answer.
     pub(crate) format: Format,
@@ -46,7 +46,7 @@ fn row_values<'t>(alloc: Global, table: &'t Table, row: usize) -> Result<Vec<Val
 }
 
 impl KeyLookup {
-    /// Returns the numbers of the columns that are asked for, where not all are.
+    /// Returns the numbers of the columns that are asked for, if not all are.
     fn selected(&self) -> Option<&[usize]>
         ensures { option_map (λ places. places.now) result ≡ optional_numbers self.now.select }
     {

@@ -31,7 +31,7 @@ pub fn one_reading()
     odata_request::one_request();
 }
 
-/// Unless the connection closed, what follows a stream is answered as what follows its rest; where it closed, what follows is not answered. So
+/// Unless the connection closed, what follows a stream is answered as what follows its rest; if it closed, what follows is not answered. So
 /// the replies do not depend on how a stream is cut into pieces.
 pub fn joins()
     ensures { UnderTables Joins }
@@ -39,7 +39,7 @@ pub fn joins()
     http_heads::cuts_join();
 }
 
-/// Where nothing that follows a stream can put a head at the front of its rest, the replies are those that are certain and one to the rest, whether the
+/// If nothing that follows a stream can put a head at the front of its rest, the replies are those that are certain and one to the rest, whether the
 /// stream ends there or goes on.
 pub fn hopeless_ends()
     ensures { UnderTables HopelessEnds }

@@ -41,7 +41,7 @@ fn push_field(out: &mut Vec<u8>, name: &[u8], value: &[u8]) -> Result<(), AllocE
     out.extend_from_slice(b"\r\n")
 }
 
-/// Appends the methods that are served, where another was refused.
+/// Appends the methods that are served, if another was refused.
 fn push_allow(out: &mut Vec<u8>, status: u16) -> Result<(), AllocError>
     ensures { OnOk result (out.new.items ≡ out.old.items ++ allow_line status) }
 {

@@ -100,7 +100,7 @@ fn rows_body(
     }
 }
 
-/// Returns what the rows of a run answer, of which some first ones were counted: where their number alone is asked for, it is their count.
+/// Returns what the rows of a run answer, of which some first ones were counted: if their number alone is asked for, it is their count.
 pub(crate) fn answer_response(
     alloc: Global,
     rows: Rows,

@@ -200,7 +200,7 @@ impl Connection {
         self.output.take(out)
     }
 
-    /// First bytes of the output: one at least, where any waits.
+    /// First bytes of the output: one at least, if any waits.
     pub(crate) fn waiting(&self) -> &[u8]
         ensures { IsFront result.now self.now.output }
     {

@@ -93,7 +93,7 @@ impl Hub {
         take_at(&mut self.places, conn.0, out)
     }
 
-    /// First bytes of a connection's output: one at least, where any waits.
+    /// First bytes of a connection's output: one at least, if any waits.
     pub fn waiting(&self, conn: Conn) -> Result<&[u8], HubFault>
         ensures { (h : HubOf) → Models self.now h → LendsAt (conn_at h conn.0) result }
     {

@@ -15,7 +15,7 @@ pub fn joins()
     http_heads::cuts_join();
 }
 
-/// Where the tables never change, the replies of a stream are those of its bytes that a run over devices and a session give.
+/// If the tables never change, the replies of a stream are those of its bytes that a run over devices and a session give.
 pub fn same_replies()
     ensures { SameReplies }
 {
@@ -53,7 +53,7 @@ pub fn over_when_taken()
     http_heads::cuts_join();
 }
 
-/// Where nothing that follows can put a head at the front of a connection's rest, its end brings the replies now that it would bring later: those that are
+/// If nothing that follows can put a head at the front of a connection's rest, its end brings the replies now that it would bring later: those that are
 /// certain, and one to the rest.
 pub fn hopeless_ends()
     ensures { HopelessConnectionsEnd }

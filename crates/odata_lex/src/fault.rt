@@ -2,7 +2,7 @@
 
 use std::alloc::AllocFailed;
 
-/// Why a text has no tokens. Where there are more than 1,024 of them before the first place where none begins, it is `TooMany`.
+/// Why a text has no tokens. If there are more than 1,024 of them before the first place where none begins, it is `TooMany`.
 #[derive(Clone, Copy, Debug, PartialEq, Eq)]
 pub enum LexFault {
     /// At some place neither a space, a tab nor a token begins.

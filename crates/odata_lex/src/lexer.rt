@@ -45,7 +45,7 @@ fn read_tokens(alloc: Global, bytes: &[u8]) -> Result<Vec<Token>, LexFault>
     Ok(tokens)
 }
 
-/// Returns the tokens of a text, in order: spaces and tabs part them, and at each place the first kind that fits is taken. `Bad` where
+/// Returns the tokens of a text, in order: spaces and tabs part them, and at each place the first kind that fits is taken. `Bad` if
 /// neither a space, a tab nor a token begins at some place, and no more than [`MAX_TOKENS`] tokens stand before the first such
 /// place; `TooMany` where more stand before it, or before the end.
 pub fn lex(alloc: Global, source: &str) -> Result<Vec<Token>, LexFault>

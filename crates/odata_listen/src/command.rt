@@ -24,7 +24,7 @@ use std::rc::Rc;
 use std::rt::{Clock, Env, Files};
 use table_store::Catalog;
 
-/// What is said where memory ran out.
+/// What is said if memory ran out.
 const NO_MEMORY: &str = "not served: memory ran out";
 
 /// Says how the program is called.

@@ -27,7 +27,7 @@ fn linger(server: &mut Server, place: u32, poll: &Poll, log: &mut Log<'_>)
     log.ended(place, CloseReason::Answered);
 }
 
-/// Notes that something was done at a place, counts what was sent, and ends its stream where what came can begin no head any more: its 400 need not wait for the
+/// Notes that something was done at a place, counts what was sent, and ends its stream if what came can begin no head any more: its 400 need not wait for the
 /// seconds that a head may take.
 fn note(server: &mut Server, place: u32, now: u64, log: &mut Log<'_>)
     ensures notes { Notes now place server.old server.new }

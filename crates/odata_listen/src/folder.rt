@@ -74,7 +74,7 @@ fn push_state(text: &mut String, found: &Metadata) -> Result<(), AllocError> {
 impl<'a> Folder<'a> {
     ghost use Rattle.odata_listen.specs.Serving.{MayReload};
 
-    /// Returns the folder as it is now, before it is loaded; where a link in the place of a file is followed, or is none of its files.
+    /// Returns the folder as it is now, before it is loaded. If it `follows` links, one in the place of a file is that file; else it is none.
     pub fn new(rt: &HostRuntime, name: &'a str, follows: bool) -> Folder<'a> {
         let mut folder = Folder {
             name,
@@ -103,7 +103,7 @@ impl<'a> Folder<'a> {
         }
     }
 
-    /// Reads the names of the files where the metadata is not as it was when they were read last. If it can't be read, they are read again at the next look.
+    /// Reads the names of the files if the metadata is not as it was when they were read last. If it can't be read, they are read again at the next look.
     fn read_names(&mut self, rt: &HostRuntime, metadata: &str) -> Result<(), AllocError> {
         if self.metadata.as_str() == metadata {
             return Ok(());

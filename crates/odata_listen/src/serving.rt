@@ -87,7 +87,7 @@ fn take_in(server: &mut Server, poller: &Poller, log: &mut Log<'_>) -> Taken
     take_accepted(server, poller, poller.listener.accept(), log)
 }
 
-/// Takes in connections, where some may wait, as long as places are free. Whether one was taken in.
+/// Takes in connections, if some may wait, as long as places are free. Whether one was taken in.
 #[tactic(auto, using(crate::proofs::ServingLemmas::on_none))]
 fn accept(server: &mut Server, poller: &mut Poller, log: &mut Log<'_>) -> bool
     ensures { RunsOn server.old server.new }
@@ -119,7 +119,7 @@ fn tend_lingering(server: &mut Server)
     }
 }
 
-/// What is done where a second began: slow peers are ended, and the folder is looked at. The next write to each socket is tried.
+/// What is done when a second began: slow peers are ended, and the folder is looked at. The next write to each socket is tried.
 #[tactic(auto, using(crate::proofs::ServingLemmas::on_none))]
 fn tend(
     rt: &HostRuntime,

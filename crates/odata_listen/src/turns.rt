@@ -115,7 +115,7 @@ fn serve_place(
     more
 }
 
-/// Returns the place whose turn it is, of `places` in a circle, where that after the last one is the first.
+/// Returns the place whose turn it is, of `places` in a circle: the first comes after the last one.
 fn turn_at(places: u32, next: u32) -> u32
     ensures turn { result ≡ turn_at places next }
     ensures within { result < 2 ^ 32 - 1 }

@@ -81,7 +81,7 @@ pub fn look_of(taken: &str, seen: &str, found: &str) -> FolderLook
     }
 }
 
-/// Hands the tables of a folder to the hub; where the folder was refused, the hub keeps those that it has.
+/// Hands the tables of a folder to the hub; if the folder was refused, the hub keeps those that it has.
 #[tactic(auto, using(crate::proofs::ReloadLemmas::reload_step))]
 pub fn hand_over(
     alloc: Global,
@@ -102,7 +102,7 @@ pub fn hand_over(
     }
 }
 
-/// True if a reload comes to the same end as long as the folder stays: not where a device failed, or memory ran out.
+/// True if a reload comes to the same end as long as the folder stays: not if a device failed, or memory ran out.
 pub fn is_final(end: &Result<(), ProgramFault>) -> bool
     ensures { result ≡ is_final end.now }
 {

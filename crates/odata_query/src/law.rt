@@ -9,7 +9,7 @@ pub fn sizes()
     ensures { QuerySizes }
 {}
 
-/// A key predicate has a type just where each of its literals has a value in its column of the key, and then these values are it; it is
+/// A key predicate has a type just if each of its literals has a value in its column of the key, and then these values are it; it is
 /// refused for its one cause otherwise.
 pub fn keys_are_typed()
     ensures { KeysAreTyped }

@@ -8,20 +8,20 @@ use typed_trees::{TruthExpr, TypedExpr};
 /// A key or the options of a query on a table.
 #[derive(Drop)]
 pub struct Query {
-    /// The key in the path, where one row is asked for.
+    /// The key in the path, if one row is asked for.
     pub key: Option<Key>,
     /// Whether only the number of rows is asked for, by `/$count` after the path.
     pub counting: bool,
-    /// The transformations of `$apply`, none where it is not there.
+    /// The transformations of `$apply`, none if it is not there.
     pub apply: Vec<Transformation>,
     pub filter: Option<Expr>,
     /// Whether the number of rows is asked for beside them, by `$count=true`.
     pub count: bool,
-    /// The items of `$orderby`, none where it is not there.
+    /// The items of `$orderby`, none if it is not there.
     pub order: Vec<OrderItem>,
     pub skip: u64,
     pub top: Option<u64>,
-    /// The items of `$select`, where it is there.
+    /// The items of `$select`, if it is there.
     pub select: Option<Vec<SelectItem>>,
 }
 
@@ -44,6 +44,6 @@ pub struct Typed {
     pub order: Vec<OrderBy>,
     pub skip: u64,
     pub top: Option<u64>,
-    /// The numbers of the columns that are asked for, rising, where `$select` is there.
+    /// The numbers of the columns that are asked for, rising, if `$select` is there.
     pub select: Option<Vec<usize>>,
 }

@@ -66,7 +66,7 @@ pub(crate) fn asked_format(options: &[(OptionName, String)]) -> Option<Format>
     format_in(value_of(options, OptionName::Format))
 }
 
-/// The texts of a query on a table, none where the path has no key and the query does not have the option.
+/// The texts of a query on a table, none if the path has no key and the query does not have the option.
 #[derive(Clone, Copy)]
 pub(crate) struct Texts<'a> {
     /// The key in the path.

@@ -78,7 +78,7 @@ pub(crate) fn optional_key(alloc: Global, text: Option<&str>) -> Result<Option<K
     }
 }
 
-/// Returns the transformations of `$apply`; none where the query does not have it.
+/// Returns the transformations of `$apply`; none if the query does not have it.
 pub(crate) fn apply_or_none(
     alloc: Global,
     limit: u32,
@@ -116,7 +116,7 @@ pub(crate) fn flag_or_false(text: Option<&str>) -> Result<bool, RequestFault>
     }
 }
 
-/// Returns the items of `$orderby`; none where the query does not have it.
+/// Returns the items of `$orderby`; none if the query does not have it.
 pub(crate) fn order_or_none(
     alloc: Global,
     text: Option<&str>,
@@ -129,7 +129,7 @@ pub(crate) fn order_or_none(
     }
 }
 
-/// Returns the value of `$skip`; 0 where the query does not have it.
+/// Returns the value of `$skip`; 0 if the query does not have it.
 pub(crate) fn number_or_zero(text: Option<&str>) -> Result<u64, RequestFault>
     ensures { Yields (λ number. number) (ReadsOr 0 ReadsNumber (lent_view text.entry)) result }
 {

@@ -28,7 +28,7 @@ pub fn usage_status(rt: &impl Eprint) -> u8
     USAGE
 }
 
-/// Returns the exit status where the system hands over no words. A word that is not UTF-8 is no word of a command.
+/// Returns the exit status if the system hands over no words. A word that is not UTF-8 is no word of a command.
 pub fn unread_status(rt: &impl Eprint, error: &io::Error) -> u8
     ensures usage { error_kind error.now ≡ ErrorKind.InvalidData → result ≡ USAGE }
     ensures memory { error_kind error.now ≡ ErrorKind.OutOfMemory → result ≡ MEMORY }
@@ -138,7 +138,7 @@ where
     }
 }
 
-/// Does what the words ask for, the first of which is the program's name. The status is that of usage where `clap` does not take them, or a script has a bad line.
+/// Does what the words ask for, the first of which is the program's name. The status is that of usage if `clap` does not take them, or a script has a bad line.
 pub fn line_status<R>(rt: &R, line: &[&str]) -> u8
 where
     R: Files

@@ -52,7 +52,7 @@ impl CountedListener {
         }
     }
 
-    /// Returns a listener on that port of 127.0.0.1, where no other machine reaches it; on a free port, if that is 0.
+    /// Returns a listener on that port of 127.0.0.1, which no other machine reaches; on a free port if that is 0.
     pub fn bind<R: Net<Listener = TcpListener, Stream = TcpStream>>(
         rt: &R,
         port: u16,

@@ -178,7 +178,7 @@ fn matches_words<'a>(matches: &ArgMatches<'a>) -> Option<Words<'a>>
     }
 }
 
-/// Returns what the words of the command line ask for, the first of which is the program's own name: `Usage` exactly where `clap` does not take them, or they ask for help.
+/// Returns what the words of the command line ask for, the first of which is the program's own name: `Usage` exactly if `clap` does not take them, or they ask for help.
 pub fn read_words<'a>(alloc: Global, words: &'a [&'a str]) -> Result<Words<'a>, WordsFault>
     ensures words { IfOk result (AreWords (texts words.now)) }
     ensures usage { IfErr result (λ e. e ≡ WordsFault.Usage → ¬ (IsTaken (texts words.now))) }

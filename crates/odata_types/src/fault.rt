@@ -9,7 +9,7 @@ pub enum TypeFault {
     UnknownName,
     /// Operands whose types do not fit the operator or function, or each other.
     Mismatch,
-    /// A number that may grow over 2 to the 126 in size, in millionths where it is a decimal.
+    /// A number that may grow over 2 to the 126 in size, in millionths if it is a decimal.
     TooLarge,
     /// An alias of `$apply` that is the name of another column.
     AliasTaken,

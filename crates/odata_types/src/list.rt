@@ -167,7 +167,7 @@ fn list_as(
     Ok(Box::new(alloc, expr)?)
 }
 
-/// `in` where no value of the list is too large.
+/// `in` if no value of the list is too large.
 fn list_in_type(
     alloc: Global,
     common: ExprType,

@@ -149,7 +149,7 @@ fn reads(rt: HostRuntime) -> Result<(), Fail> {
     Ok(())
 }
 
-/// True if a run fails if its output takes only some bytes, with these bytes of the replies written; and ends well where that takes all.
+/// True if a run fails if its output takes only some bytes, with these bytes of the replies written; and ends well if that takes all.
 fn is_writing(alloc: Global, catalog: &Catalog, most: usize, interrupts: bool) -> bool {
     let wanted = if most == COUNT_REPLIES.len() {
         Ok(())

@@ -105,7 +105,7 @@ fn folders(rt: HostRuntime) -> Result<(), Fail> {
     Ok(())
 }
 
-/// Targets, and the bodies of the replies where one transformation is the most.
+/// Targets, and the bodies of the replies if one transformation is the most.
 const APPLIES: &[(&str, &str)] = &[
     (
         "/a?$apply=aggregate($count%20as%20N)",

@@ -51,7 +51,7 @@ enum Stage {
 pub struct Run {
     /// The numbers of the blocks that are admitted and were not handed in.
     left: VecDeque<usize>,
-    /// How many rows that pass the conditions the stop still looks for, where there is one.
+    /// How many rows that pass the conditions the stop still looks for, if there is one.
     room: Option<u64>,
     /// The conditions that the plan begins with.
     conditions: Vec<Box<TruthExpr>>,

@@ -97,7 +97,7 @@ impl Sink {
         }
     }
 
-    /// Returns the rows that it keeps, where these are what its step makes of the rows that it took in.
+    /// Returns the rows that it keeps, if these are what its step makes of the rows that it took in.
     pub(crate) fn front(&self) -> Option<FirstRows<'_>>
         ensures { LendsKept self.now result }
     {

@@ -9,7 +9,7 @@ pub fn bounds_hold()
     ensures { BoundsHold }
 {}
 
-/// A row passes a filter just where its outcome is true, and the rows that pass stay in their order; a division by zero on any row is
+/// A row passes a filter just if its outcome is true, and the rows that pass stay in their order; a division by zero on any row is
 /// one of the whole.
 pub fn true_rows_pass()
     ensures { TrueRowsPass }

@@ -110,7 +110,7 @@ fn push_order(nodes: &mut Vec<Node>, order: Vec<OrderBy>) -> Result<(), AllocErr
     Ok(())
 }
 
-/// Returns the step of `$count`, `$skip` and `$top`, where one of them asks for something.
+/// Returns the step of `$count`, `$skip` and `$top`, if one of them asks for something.
 fn push_slice(nodes: &mut Vec<Node>, slice: Slice) -> Result<(), AllocError>
     ensures { OnOk result (Adds nodes.old (slice_nodes (slice_view slice)) nodes.new) }
 {

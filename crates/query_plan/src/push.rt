@@ -31,7 +31,7 @@ fn filters_can_fault(nodes: &[Node]) -> bool
     false
 }
 
-/// Returns how many rows that pass the filters that come first are looked for: None, where all are.
+/// Returns how many rows that pass the filters that come first are looked for: None, if all are.
 fn early_stop(nodes: &[Node]) -> Option<u64>
     ensures { result ≡ early_stop_of (map node_view nodes.now) }
 {
@@ -113,7 +113,7 @@ fn may_be_pushed(plan: &Plan) -> bool
     plan.scan.is_bare() && !filters_can_fault(&plan.nodes)
 }
 
-/// Returns a plan that reads fewer blocks, where its scan reads every block and none of the filters that come first may divide by zero: these are
+/// Returns a plan that reads fewer blocks, if its scan reads every block and none of the filters that come first may divide by zero: these are
 /// split at `and`, the scan has the tests among them, and it stops early.
 pub fn pushed(alloc: Global, plan: Plan) -> Result<Plan, AllocError>
     ensures { IfOk result (λ made. plan_view made ≡ pushed_of (plan_view plan)) }

@@ -33,7 +33,7 @@ fn chosen(node: Node, most: Option<u64>) -> Node
     }
 }
 
-/// The steps, where the best rows take the place of a whole sort.
+/// The steps, if the best rows take the place of a whole sort.
 fn with_best_rows(alloc: Global, nodes: Vec<Node>) -> Result<Vec<Node>, AllocError>
     ensures { IfOk result (λ made.
         map node_view made.items ≡ best_nodes (map node_view nodes.items)) }

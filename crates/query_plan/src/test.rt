@@ -166,7 +166,7 @@ fn truth_test(
     }
 }
 
-/// Returns the test that a condition is, where it compares a column with a literal.
+/// Returns the test that a condition is, if it compares a column with a literal.
 pub fn test_of(alloc: Global, condition: &TruthExpr) -> Result<Option<ColumnTest>, AllocError>
     ensures { IfOk result (λ test.
         option_map test_view test ≡ test_of_condition (truth_view condition.now)) }

@@ -70,7 +70,7 @@ fn tests(rt: HostRuntime) -> Result<(), Fail> {
     Ok(())
 }
 
-/// The numbers of a column, where what stands in the place of a null does not matter, and which of them are null.
+/// The numbers of a column, in which what stands in the place of a null does not matter, and which of them are null.
 const NUMBERS: [i64; 4] = [i64::MIN, 5, i64::MAX, 0];
 
 const NULLS: [bool; 4] = [false, true, false, false];

@@ -68,7 +68,7 @@ fn classes(rt: HostRuntime) {
     }
 }
 
-/// A file of one cell, and whether its text is a copy: only where a pair of double quotes stands.
+/// A file of one cell, and whether its text is a copy: only if a pair of double quotes stands.
 const COPIES: &[(&str, bool)] = &[
     ("\u{feff}A\nx", false),
     ("A\n\n", false),

@@ -33,7 +33,7 @@ fn sizes_in_turns(names: &[String], columns: &Columns, turns: &[usize]) -> Sizes
     Sizes { seen, ..sizes }
 }
 
-/// Returns the sizes of rows, of which some first ones were counted: of all of them, where they stand in another order than their table and are many.
+/// Returns the sizes of rows, of which some first ones were counted: of all of them, if they stand in another order than their table and are many.
 pub(crate) fn counted_in_turns(
     alloc: Global,
     rows: &Rows,

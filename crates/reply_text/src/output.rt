@@ -114,7 +114,7 @@ impl Output {
         Ok(())
     }
 
-    /// First bytes of those that wait: one at least, where any waits.
+    /// First bytes of those that wait: one at least, if any waits.
     pub fn waiting(&self) -> &[u8]
         ensures { IsFront result.now self.now }
     {

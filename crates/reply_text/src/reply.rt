@@ -98,7 +98,7 @@ impl Reply {
         self.at == self.laid.len()
     }
 
-    /// First bytes of those that wait: one at least, where any waits.
+    /// First bytes of those that wait: one at least, if any waits.
     pub fn waiting(&self) -> &[u8]
         ensures { IsFront result.now self.now }
     {

@@ -51,7 +51,7 @@ pub fn without_last_zeros(digits: &[u8]) -> &[u8]
     &digits[..len]
 }
 
-/// Appends a point and decimal places, or nothing where each is 0.
+/// Appends a point and decimal places, or nothing if each is 0.
 fn push_fraction(out: &mut Vec<u8>, number: u32) -> Result<(), AllocError>
     requires { number < 1_000_000 }
     ensures bytes { OnOk result (out.new.items ≡ out.old.items ++ fraction_text number) }
@@ -92,7 +92,7 @@ fn push_millionths(out: &mut Vec<u8>, number: u128) -> Result<(), AllocError>
     push_fraction(out, (number % one) as u32)
 }
 
-/// Appends a decimal of that many millionths: a `-` if it is negative, the whole part, and where the fraction is not 0 a point and
+/// Appends a decimal of that many millionths: a `-` if it is negative, the whole part, and if the fraction is not 0 a point and
 /// the decimal places as far as the last that is not 0.
 pub fn push_decimal(out: &mut Vec<u8>, millionths: i128) -> Result<(), AllocError>
     ensures bytes { OnOk result (out.new.items ≡ out.old.items ++ decimal_text millionths) }

@@ -75,7 +75,7 @@ pub fn put_integer(out: &mut [u8], at: usize, number: i128) -> usize
     }
 }
 
-/// Writes a point and decimal places, or nothing where each is 0.
+/// Writes a point and decimal places, or nothing if each is 0.
 #[inline(always)]
 fn put_fraction(out: &mut [u8], at: usize, number: u32) -> usize
     requires few { number < 1_000_000 }

@@ -130,7 +130,7 @@ impl Rows {
         self.columns.value(row, col)
     }
 
-    /// Returns a row, counted from 0. It takes no memory, and where several of its values are asked for, it is the faster way.
+    /// Returns a row, counted from 0. It takes no memory, and if several of its values are asked for, it is the faster way.
     pub fn row_ref(&self, row: usize) -> RowRef<'_>
         requires { row < length self.now.rows }
         ensures row { slice_get self.now.rows row ≡ Some result }

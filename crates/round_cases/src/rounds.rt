@@ -213,7 +213,7 @@ fn is_right(peer: Option<&Peer<'_>>, case: &Case) -> bool {
     }
 }
 
-/// Returns the first case whose peer took something else, or whose place ended otherwise, where a table of three rows comes between rounds.
+/// Returns the first case whose peer took something else, or whose place ended otherwise, when a table of three rows comes between rounds.
 fn first_wrong(
     alloc: Global,
     cases: &[Case],

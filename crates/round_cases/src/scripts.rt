@@ -6,7 +6,7 @@ ghost use Rattle.odata_http.specs.Device.{TakesSome};
 use odata_rounds::{PeerFault, Peers, SlotState};
 use std::alloc::Global;
 
-/// What a peer sends; how many bytes it sends and takes at once, where 0 takes nothing; whether it waits at each other call; and at which call it is
+/// What a peer sends; how many bytes it sends and takes at once, of which 0 takes nothing; whether it waits at each other call; and at which call it is
 /// lost, counted from 1.
 #[derive(Clone, Copy)]
 pub(crate) struct Script<'a> {

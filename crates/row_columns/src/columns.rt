@@ -192,7 +192,7 @@ impl Columns {
         self.store.value(self.numbers.at(row) as usize, col)
     }
 
-    /// Returns a row, counted from 0. It takes no memory, and where several values of a row are asked for, it is the faster way.
+    /// Returns a row, counted from 0. It takes no memory, and if several values of a row are asked for, it is the faster way.
     #[inline(always)]
     pub fn row_ref(&self, row: usize) -> RowRef<'_>
         requires { row < length self.now.rows }

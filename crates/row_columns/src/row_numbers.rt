@@ -168,7 +168,7 @@ impl RowNumbers {
         Some((self.chunks[0].start, self.count))
     }
 
-    /// Returns true if each is greater than the one before it. So it is if none is listed; where only some are, it is not looked for, and the answer is no.
+    /// Returns true if each is greater than the one before it. So it is if none is listed; if only some are, it is not looked for, and the answer is no.
     pub(crate) fn rise(&self) -> bool {
         if self.listed.is_empty() {
             return true;

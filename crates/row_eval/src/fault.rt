@@ -7,7 +7,7 @@ use std::alloc::AllocError;
 pub enum EvalFault {
     /// A number is divided by zero.
     DivisionByZero,
-    /// Memory ran out, where texts are joined.
+    /// Memory ran out when texts were joined.
     NoMemory,
 }
 

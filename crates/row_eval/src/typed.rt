@@ -67,7 +67,7 @@ fn date_value<'a>(date: Option<Date>) -> Value<'a>
     }
 }
 
-/// Returns the value of an expression on a row. The right side of `and` is not evaluated where the left one is false, nor that of `or` where it
+/// Returns the value of an expression on a row. The right side of `and` is not evaluated if the left one is false, nor that of `or` if it
 /// is true; every other operand is, the left one first.
 pub fn eval<'r>(
     alloc: Global,

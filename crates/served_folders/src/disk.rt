@@ -39,7 +39,7 @@ impl<'a, R: Files> Disk<'a, R> {
         }
     }
 
-    /// The same folders, where a link in the place of a file is followed, or is no plain file.
+    /// Returns the same folders. If `yes`, a link in the place of a file is followed; else it is no plain file.
     pub fn follow_links(mut self, yes: bool) -> Disk<'a, R>
         ensures { ⟦<Disk<'a, R> as Folders>⟧.folders result
             ≡ ⟦<Disk<'a, R> as Folders>⟧.folders self.entry }

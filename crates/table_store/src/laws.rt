@@ -2,12 +2,12 @@
 ghost use Rattle.table_store.specs.Laws.{FirstBadCellIsFirst, FirstMismatchIsFirst, KeysOfTables, OneMeaning, SchemasOfTables};
 ghost use Rattle.table_store.specs.Worked.{WorkedTables};
 
-/// A header matches the columns where each cell of it is called as its column is; else the column that is reported is the first at which they differ.
+/// A header matches the columns if each cell of it is called as its column is; else the column that is reported is the first at which they differ.
 pub fn first_mismatch_is_first()
     ensures { FirstMismatchIsFirst }
 {}
 
-/// Rows have values where each cell has one; else the cell that is reported is the first, row by row, that has none.
+/// Rows have values if each cell has one; else the cell that is reported is the first, row by row, that has none.
 pub fn first_bad_cell_is_first()
     ensures { FirstBadCellIsFirst }
 {}

@@ -76,7 +76,7 @@ fn first_bad_cell(alloc: Global, columns: &[Column], part: &Part<'_, '_>, first:
     unreachable!()
 }
 
-/// Reads the rows of a part into the readers of their columns, or finds the first cell, row by row, that has no value. Where the columns have found
+/// Reads the rows of a part into the readers of their columns, or finds the first cell, row by row, that has no value. If the columns have found
 /// one, the part is read again row by row, since columns find another first. The first row of the part has that number.
 pub fn read_part(
     alloc: Global,

@@ -16,7 +16,7 @@ pub(crate) struct PlainTexts {
     pub bytes: String,
     /// Where each text ends.
     pub ends: Places,
-    /// Which rows are null; nothing where none is.
+    /// Which rows are null; nothing if none is.
     pub nulls: Vec<bool>,
 }
 
@@ -39,9 +39,9 @@ pub struct TextBlock {
     pub(crate) bytes: String,
     /// Where each text ends.
     pub(crate) ends: Places,
-    /// Which rows are null; nothing where none is.
+    /// Which rows are null; nothing if none is.
     pub(crate) nulls: Vec<bool>,
-    /// The codes of the texts, where there are few different ones.
+    /// The codes of the texts, if there are few different ones.
     pub(crate) codes: Option<TextCodes>,
     bounds: TextBounds,
 }

@@ -15,9 +15,9 @@ pub struct TextColumn<'t> {
     pub(crate) bytes: &'t str,
     /// Where each text ends.
     pub(crate) ends: &'t Places,
-    /// Which rows are null; nothing where none is.
+    /// Which rows are null; nothing if none is.
     pub(crate) nulls: &'t [bool],
-    /// The codes of the texts, where there are few different ones.
+    /// The codes of the texts, if there are few different ones.
     pub(crate) codes: Option<&'t TextCodes>,
 }
 

@@ -38,7 +38,7 @@ pub fn place_at(places: &Places, number: usize) -> usize
     }
 }
 
-/// Returns where the text of a row begins: where the one before it ends.
+/// Returns where the text of a row begins: at the end of the one before it.
 #[inline(always)]
 pub fn start_at(places: &Places, row: usize) -> usize
     requires { row < length (place_list places.now) }

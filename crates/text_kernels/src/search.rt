@@ -34,7 +34,7 @@ fn truth_each(texts: &TextColumn<'_>, marks: &[bool], out: &mut [Truth])
     }
 }
 
-/// Returns whether a part stands in the texts of a column; null where a text is null.
+/// Returns whether a part stands in the texts of a column; null if a text is null.
 pub fn contain(alloc: Global, texts: &TextColumn<'_>, part: &str) -> Result<Vec<Truth>, Fallback>
     ensures { IfOk result (λ truths. HasTruths (length texts.now)
         (λ row. related (Test Contains) (text_at texts.now row) (Some part.now)) truths.items) }

@@ -50,7 +50,7 @@ pub enum NumberExpr {
     Arithmetic(ArithmeticOperator, Box<NumberExpr>, Box<NumberExpr>),
     /// How many characters a text has.
     Length(Box<TextExpr>),
-    /// Where the second text begins in the first, in characters from 0; -1 where it is no part of it.
+    /// Where the second text begins in the first, in characters from 0; -1 if it is no part of it.
     IndexOf(Box<TextExpr>, Box<TextExpr>),
     PartOf(DatePart, DateExpr),
     /// An integer as a decimal.

@@ -67,7 +67,7 @@ pub fn kind_of(kind: NumberKind) -> Kind
     }
 }
 
-/// A column of numbers passes the test of the value that a number stands for where the comparison with the number holds.
+/// A column of numbers passes the test of the value that a number stands for if the comparison with the number holds.
 pub fn numbers_are_tested()
     ensures { NumbersAreTested }
 {

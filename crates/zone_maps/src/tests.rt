@@ -70,7 +70,7 @@ fn has_no_null(summary: &Summary, place: usize) -> bool
     fails_each(summary, place, &test)
 }
 
-/// True if the opposite of a test holds just where the test does not: not of an order, if there is null.
+/// True if the opposite of a test holds just if the test does not: not of an order, if there is null.
 fn has_opposite(summary: &Summary, place: usize, test: &Test<'_>) -> bool
     ensures { IsTrue result → HasOpposite summary.now place test.now }
 {
