@@ -11,7 +11,7 @@ use denote.Ref.{Bor}
 use Rattle.block_summary.specs.declared.number.PackedType.{PackedType}
 use Rattle.block_summary.specs.Ranges.{column_of}
 use Rattle.block_summary.specs.Reading.{packed_type_of}
-use Rattle.cell_types.specs.BlockColumn.{ColumnOf}
+use Rattle.cell_types.specs.Column.{ColumnOf}
 use Rattle.cell_types.specs.Datatype.{is_text}
 use Rattle.cell_types.specs.Value.{CellValue, null}
 use Rattle.table_store.specs.Block.{packed_cells, text_cells}

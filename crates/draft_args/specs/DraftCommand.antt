@@ -5,7 +5,7 @@ use Rattle.clap.specs.Facts.{explicit_source}
 use Rattle.clap.specs.DraftCommand.{App, Row, Text, fault_of, first_of, matches_of, one_of, subcommand_of, with_rule, with_subcommand}
 use Rattle.cli_args.specs.Command.{flag_rule, folder_rule, over_folder, program_named}
 use Rattle.cli_args.specs.Fault.{IsRefusal}
-use Rattle.cli_args.specs.DraftCommand.{HasFlag}
+use Rattle.cli_args.specs.Words.{HasFlag}
 use Rattle.cli_args.specs.declared.fault.ArgsFault.{ArgsFault}
 use Rattle.cli_args.specs.declared.fault.ArgsFault.TheVariants.{Usage}
 use Rattle.draft_args.specs.declared.words.DraftOptions.{DraftOptions}

@@ -2,7 +2,7 @@
 ghost use Rattle.std.specs.Prelude.{◌≡◌, None, Some, IfErr, IfOk};
 ghost use Rattle.clap.specs.DraftCommand.{found_of, rows_of, subcommand_rows_of};
 ghost use Rattle.cli_args.specs.Fault.{IsReadingOf, IsRefusal};
-ghost use Rattle.cli_args.specs.DraftCommand.{texts};
+ghost use Rattle.cli_args.specs.Words.{texts};
 ghost use Rattle.draft_args.specs.DraftCommand.{LineAsksFor, AsksNot, AsksSo, IsWordsFault, whole_command};
 
 use crate::conversion::{Conversion, conversion_of, convert_command};

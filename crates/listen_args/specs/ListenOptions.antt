@@ -3,7 +3,7 @@ use Rattle.std.specs.Prelude.{◌≡◌, ◌⊎◌, ℕ, true, false, List, Opti
 use Rattle.clap.specs.ListenOptions.{App, Row, Text, fault_of, first_of, matches_of, one_of, with_rule}
 use Rattle.cli_args.specs.Command.{flag_rule, folder_rule, number_rule, optional_rule, program_named, shown_rule, text_rule}
 use Rattle.cli_args.specs.Fault.{IsRefusal}
-use Rattle.cli_args.specs.ListenOptions.{HasFlag, ReadsNumberOfBits, port_rule}
+use Rattle.cli_args.specs.Words.{HasFlag, ReadsNumberOfBits, port_rule}
 use Rattle.cli_args.specs.declared.fault.ArgsFault.{ArgsFault}
 use Rattle.cli_args.specs.declared.fault.ArgsFault.TheVariants.{Usage}
 use Rattle.listen_args.specs.declared.words.ListenOptions.{ListenOptions}

@@ -3,7 +3,7 @@
 ghost use Rattle.std.specs.Prelude.{◌≡◌, IfErr, IfNone, IfOk, IfSome};
 ghost use Rattle.clap.specs.ListenOptions.{found_of, rows_of};
 ghost use Rattle.cli_args.specs.Fault.{IsReadingOf, IsRefusal};
-ghost use Rattle.cli_args.specs.ListenOptions.{texts};
+ghost use Rattle.cli_args.specs.Words.{texts};
 ghost use Rattle.listen_args.specs.Laws.{ListenSizes};
 ghost use Rattle.listen_args.specs.ListenOptions.{AreListenWords, AsksBy, IsFaultOfWords, listen_app};
 

@@ -2,7 +2,7 @@
 use Rattle.std.proofs.Common.{◌≡◌, ℕ, List, drop, get_or, set, Option, Some, None, Ok, Err, refl, sym, ap, subst, inl}
 use Rattle.std.specs.Borrow.{Bor}
 use Rattle.table_store.specs.Catalog.{CatalogOf}
-use Rattle.odata_http.specs.QueuedHead.{IsFront}
+use Rattle.odata_http.specs.Waiting.{IsFront}
 use Rattle.odata_hub.specs.declared.answers.HubFault.TheVariants.{NoSuchConnection}
 use Rattle.odata_hub.specs.declared.connection.Connection.{Connection}
 use Rattle.odata_hub.specs.Connections.{ConnOf, Step, Take, answer_to}

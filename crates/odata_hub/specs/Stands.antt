@@ -10,7 +10,7 @@ use Rattle.odata_hub.specs.declared.connection.Connection.{Connection}
 use Rattle.odata_hub.specs.declared.hub.Hub.{Hub}
 use Rattle.odata_hub.specs.Connections.{Answer, Call, ConnOf, FlightOf, Refused, Step, Take, answer_to, is_over}
 use Rattle.odata_hub.specs.Held.{IsInFlight}
-use Rattle.odata_http.specs.QueuedHead.{IsFront}
+use Rattle.odata_http.specs.Waiting.{IsFront}
 use Rattle.odata_hub.specs.Schedules.{Event, HubOf, HubStep, On, conn_at}
 
 -- the connection, where what it holds of an exchange stands for this one

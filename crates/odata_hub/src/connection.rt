@@ -23,7 +23,7 @@ pub(crate) struct Connection {
 impl Connection {
     ghost use Rattle.std.specs.Prelude.{◌≡◌, ◌≤◌, [], IfOk, None, Some, Option, OnErr, drop, length, take};
     ghost use Rattle.http_heads.specs.Hopeless.{TellsHopeless};
-    ghost use Rattle.odata_http.specs.QueuedHead.{IsFront};
+    ghost use Rattle.odata_http.specs.Waiting.{IsFront};
     ghost use Rattle.odata_hub.specs.Connections.{ConnOf, Done, End, FlightOf, Gave, IsFailed, Piece, Take, Turn, Went, call_answer, fresh, is_over};
     ghost use Rattle.odata_hub.specs.Held.{IsFlight, IsInFlight};
     ghost use Rattle.odata_hub.specs.Stands.{ConnStandsFor, IsConnStep, IsConnTook, conn_of};

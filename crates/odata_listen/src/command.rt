@@ -1,7 +1,7 @@
 //! What the words of the command line ask for, done. Each end has the exit status that `exit_statuses` has for it, and each status but 0 a line on standard error.
 ghost use Rattle.std.specs.Prelude.{◌≡◌, ◌≢◌, ◌==◌, ◌-◌, ◌^◌, if◌then◌else◌};
 ghost use Rattle.std.specs.IoError.{error_kind};
-ghost use Rattle.cli_args.specs.ListenOptions.{texts};
+ghost use Rattle.cli_args.specs.Words.{texts};
 ghost use Rattle.exit_statuses.specs.Status.{IsFaultStatus};
 ghost use Rattle.odata_listen.specs.Command.{IsLineStatus, IsServedStatus, IsStartStatus};
 

@@ -1,5 +1,5 @@
 use Rattle.std.proofs.Common.{inl}
-use Rattle.cli_args.specs.DraftCommand.{texts}
+use Rattle.cli_args.specs.Words.{texts}
 use Rattle.draft_args.proofs.WordLemmas.{line_asks, line_asks_not}
 use Rattle.draft_args.proofs.words.read_words.Goals as goal
 
