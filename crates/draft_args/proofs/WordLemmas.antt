@@ -5,7 +5,7 @@ use Rattle.std.specs.List.{list_any}
 use Rattle.std.specs.Prelude.{IfErr, IfOk}
 use Rattle.clap.specs.Facts.{explicit_source, is_explicit}
 use Rattle.clap.specs.Walk.{row_of}
-use Rattle.clap.specs.DraftCommand.{Row, Text, first_of, found_of, is_simple_and_free, matches_of, rows_of, subcommand_of, subcommand_rows_of}
+use Rattle.clap.specs.Words.{Row, Text, first_of, found_of, is_simple_and_free, matches_of, rows_of, subcommand_of, subcommand_rows_of}
 use Rattle.clap.specs.declared.parser.matches.ArgMatches.{ArgMatches}
 use Rattle.clap.specs.declared.parser.matches.Found.{Found}
 use Rattle.clap.proofs.OnLiterals.{clap_on_literals}

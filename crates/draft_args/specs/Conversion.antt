@@ -1,6 +1,6 @@
 -- The subcommand `convert`, as `clap` describes commands, and what its words ask for.
 use Rattle.std.specs.Prelude.{◌≡◌, true, List, Some, codes, option_map}
-use Rattle.clap.specs.DraftCommand.{App, Row, first_of, new_app, one_of, with_rule}
+use Rattle.clap.specs.Words.{App, Row, first_of, new_app, one_of, with_rule}
 use Rattle.cli_args.specs.Command.{flag_rule, folder_rule, number_rule, place_rule, text_rule}
 use Rattle.cli_args.specs.Words.{HasFlag, ReadsNumberOfBits}
 use Rattle.draft_args.specs.declared.conversion.Conversion.{Conversion}

@@ -2,7 +2,7 @@
 use Rattle.std.specs.Prelude.{◌≡◌, ◌⊎◌, true, false, not, List, [], Option, Some, None, codes}
 use Rattle.std.specs.List.{list_any}
 use Rattle.clap.specs.Facts.{explicit_source}
-use Rattle.clap.specs.DraftCommand.{App, Row, Text, fault_of, first_of, matches_of, one_of, subcommand_of, with_rule, with_subcommand}
+use Rattle.clap.specs.Words.{App, Row, Text, fault_of, first_of, matches_of, one_of, subcommand_of, with_rule, with_subcommand}
 use Rattle.cli_args.specs.Command.{flag_rule, folder_rule, over_folder, program_named}
 use Rattle.cli_args.specs.Fault.{IsRefusal}
 use Rattle.cli_args.specs.Words.{HasFlag}

@@ -1,6 +1,6 @@
 //! The subcommand `convert`, and what its words ask for.
 ghost use Rattle.std.specs.Prelude.{◌≡◌, IfNone, IfSome, None, codes};
-ghost use Rattle.clap.specs.DraftCommand.{first_of, found_of, rows_of};
+ghost use Rattle.clap.specs.Words.{first_of, found_of, rows_of};
 ghost use Rattle.cli_args.specs.Command.{MakesCommand};
 ghost use Rattle.draft_args.specs.Conversion.{SaysOptions, convert_app, flags_app};
 

@@ -1,6 +1,6 @@
 //! The words of the command line, read by `clap` as one command. What is read is `clap`'s reading of that command; and `clap` has the texts of `--help` and `--version`.
 ghost use Rattle.std.specs.Prelude.{◌≡◌, None, Some, IfErr, IfOk};
-ghost use Rattle.clap.specs.DraftCommand.{found_of, rows_of, subcommand_rows_of};
+ghost use Rattle.clap.specs.Words.{found_of, rows_of, subcommand_rows_of};
 ghost use Rattle.cli_args.specs.Fault.{IsReadingOf, IsRefusal};
 ghost use Rattle.cli_args.specs.Words.{texts};
 ghost use Rattle.draft_args.specs.DraftCommand.{LineAsksFor, AsksNot, AsksSo, IsWordsFault, whole_command};
@@ -85,7 +85,7 @@ fn line_matches<'a>(alloc: Global, words: &'a [&'a str]) -> Result<ArgMatches<'a
 }
 
 /// What the words without a subcommand ask for.
-fn draft_args<'a>(matches: &ArgMatches<'a>) -> Result<DraftCommand<'a>, ArgsFault>
+fn draft_asked<'a>(matches: &ArgMatches<'a>) -> Result<DraftCommand<'a>, ArgsFault>
     ensures words { IfOk result (λ words. AsksSo words (rows_of (found_of matches.now)) None) }
     ensures fault { IfErr result (λ fault. (fault ≡ ArgsFault.Usage)
         × AsksNot (rows_of (found_of matches.now)) None) }
@@ -145,7 +145,7 @@ fn matches_words<'a>(matches: &ArgMatches<'a>) -> Result<DraftCommand<'a>, ArgsF
         × AsksNot (rows_of (found_of matches.now)) (subcommand_rows_of matches.now)) }
 {
     match matches.subcommand() {
-        None => draft_args(matches),
+        None => draft_asked(matches),
         Some((name, inner)) => subcommand_words(matches, name, inner),
     }
 }

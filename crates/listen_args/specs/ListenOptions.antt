@@ -1,6 +1,6 @@
 -- The program's command, as `clap` describes commands, and what its reading of a command line asks for.
 use Rattle.std.specs.Prelude.{◌≡◌, ◌⊎◌, ℕ, true, false, List, Option, Some, [], codes, option_map, unwrap_or}
-use Rattle.clap.specs.ListenOptions.{App, Row, Text, fault_of, first_of, matches_of, one_of, with_rule}
+use Rattle.clap.specs.Words.{App, Row, Text, fault_of, first_of, matches_of, one_of, with_rule}
 use Rattle.cli_args.specs.Command.{flag_rule, folder_rule, number_rule, optional_rule, program_named, shown_rule, text_rule}
 use Rattle.cli_args.specs.Fault.{IsRefusal}
 use Rattle.cli_args.specs.Words.{HasFlag, ReadsNumberOfBits, port_rule}

@@ -1,7 +1,7 @@
 //! The words of the command line, read by `clap` as one command. What is read is `clap`'s reading of that command, with the profile's numbers where
 //! an option is left out; and `clap` has the texts of `--help` and `--version`.
 ghost use Rattle.std.specs.Prelude.{◌≡◌, IfErr, IfNone, IfOk, IfSome};
-ghost use Rattle.clap.specs.ListenOptions.{found_of, rows_of};
+ghost use Rattle.clap.specs.Words.{found_of, rows_of};
 ghost use Rattle.cli_args.specs.Fault.{IsReadingOf, IsRefusal};
 ghost use Rattle.cli_args.specs.Words.{texts};
 ghost use Rattle.listen_args.specs.Laws.{ListenSizes};

@@ -1,6 +1,6 @@
 -- The exit status of a command line, by what its words ask for and what the folder came to.
 use Rattle.std.specs.Prelude.{◌≡◌, ◌≢◌, ◌⊎◌, ◌<◌, ◌≤◌, ⊤, ℕ, List, Option, Some, None, Result, Ok, Err}
-use Rattle.clap.specs.ListenOptions.{Text}
+use Rattle.clap.specs.Words.{Text}
 use Rattle.table_store.specs.Catalog.{CatalogOf}
 use Rattle.served_folders.specs.declared.folders.FolderFault.{FolderFault}
 use Rattle.cli_args.specs.declared.fault.ArgsFault.{ArgsFault}

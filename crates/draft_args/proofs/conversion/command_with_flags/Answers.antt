@@ -1,6 +1,6 @@
 -- One argument after the other.
 use Rattle.std.specs.Prelude.{codes, true}
-use Rattle.clap.specs.DraftCommand.{new_app, with_rule}
+use Rattle.clap.specs.Words.{new_app, with_rule}
 use Rattle.cli_args.specs.Command.{flag_rule, folder_rule}
 use Rattle.draft_args.specs.Conversion.{places_app, skip_app}
 use Rattle.draft_args.proofs.conversion.command_with_flags.Goals as goal

@@ -1,7 +1,7 @@
 -- One option after the other, and one subcommand after the other.
 use Rattle.std.proofs.Common.{refl}
 use Rattle.std.specs.Prelude.{codes}
-use Rattle.clap.specs.DraftCommand.{with_rule, with_subcommand}
+use Rattle.clap.specs.Words.{with_rule, with_subcommand}
 use Rattle.cli_args.specs.Command.{flag_rule, over_folder}
 use Rattle.draft_args.specs.Conversion.{convert_app}
 use Rattle.draft_args.specs.DraftCommand.{draft_app, folder_commands, versioned_app, whole_command, with_folder, with_keys}

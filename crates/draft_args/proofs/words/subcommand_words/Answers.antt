@@ -1,6 +1,6 @@
 use Rattle.std.proofs.Common.{◌≡◌, ◌∙◌, Some, ap, false, refl, rules, sym, true}
 use Rattle.std.specs.Prelude.{codes}
-use Rattle.clap.specs.DraftCommand.{first_of, found_of, rows_of}
+use Rattle.clap.specs.Words.{first_of, found_of, rows_of}
 use Rattle.draft_args.proofs.WordLemmas.{are_present, not_alone}
 use Rattle.draft_args.proofs.words.subcommand_words.Goals as goal
 

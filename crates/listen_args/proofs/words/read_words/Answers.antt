@@ -1,5 +1,5 @@
 use Rattle.std.proofs.Common.{List, inl, inr, refl, subst, sym}
-use Rattle.clap.specs.ListenOptions.{Row}
+use Rattle.clap.specs.Words.{Row}
 use Rattle.listen_args.specs.declared.words.ListenOptions.{ListenOptions}
 use Rattle.listen_args.specs.ListenOptions.{AsksBy}
 use Rattle.listen_args.proofs.words.read_words.Goals as goal

@@ -1,9 +1,9 @@
 use Rattle.std.proofs.Common.{Bool, rules, subst, sym}
 use Rattle.std.proofs.Math.Bool.{not-not}
 use Rattle.std.specs.Prelude.{codes}
-use Rattle.clap.specs.DraftCommand.{found_of, one_of, rows_of}
+use Rattle.clap.specs.Words.{found_of, one_of, rows_of}
 use Rattle.cli_args.specs.Words.{HasFlag}
-use Rattle.draft_args.proofs.words.draft_args.Goals as goal
+use Rattle.draft_args.proofs.words.draft_asked.Goals as goal
 
 pub returns-in-Some-clause-words : goal.returns-in-Some-clause-words
 returns-in-Some-clause-words c =
