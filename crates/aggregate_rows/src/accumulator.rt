@@ -33,7 +33,7 @@ pub(crate) enum Accumulator {
 }
 
 impl Accumulator {
-    /// Of no rows.
+    /// Returns what no rows come to.
     pub(crate) fn none(alloc: Global, aggregate: Aggregate) -> Accumulator
         ensures { IsAccumulator aggregate [] result }
     {
@@ -176,7 +176,7 @@ fn join_greatest(
     Ok(())
 }
 
-/// True if a value is less than another; null is none.
+/// Returns true if a value is less than another; null is none.
 fn is_less(value: &Value<'_>, other: &Value<'_>) -> bool
     ensures { (if result then value_view value.now else value_view other.now)
         ≡ lesser_value (value_view other.now) (value_view value.now) }
@@ -188,7 +188,7 @@ fn is_less(value: &Value<'_>, other: &Value<'_>) -> bool
     is_null(other) || value.cmp(other).is_lt()
 }
 
-/// True if a value is greater than another; null is none.
+/// Returns true if a value is greater than another; null is none.
 fn is_more(value: &Value<'_>, other: &Value<'_>) -> bool
     ensures { (if result then value_view value.now else value_view other.now)
         ≡ greater_value (value_view other.now) (value_view value.now) }
@@ -219,7 +219,7 @@ fn join_values(
     Ok(())
 }
 
-/// A value joins others; null is none. It is looked up before it is copied.
+/// Adds a value to others; null is none. It is looked up before it is copied.
 fn join_value(
     values: &mut KeyPlaces<Value<'static>>,
     alloc: Global,

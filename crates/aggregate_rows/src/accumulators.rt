@@ -12,7 +12,7 @@ use row_columns::{Columns, owned};
 use row_selection::Selection;
 use std::alloc::{AllocError, Global};
 
-/// Of no rows.
+/// Returns what no rows come to, by each aggregate.
 pub(crate) fn accumulators_of_none(
     alloc: Global,
     aggregates: &[Aggregate],

@@ -24,7 +24,7 @@ pub struct Aggregator {
 }
 
 impl Aggregator {
-    /// Of no rows.
+    /// Returns an aggregator that took no row.
     pub fn new(
         alloc: Global,
         places: Option<&[usize]>,

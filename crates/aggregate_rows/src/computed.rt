@@ -86,7 +86,7 @@ fn greater<'a>(value: Value<'a>, other: Value<'a>) -> Value<'a>
     }
 }
 
-/// True if a value is null.
+/// Returns true if a value is null.
 pub(crate) fn is_null(value: &Value<'_>) -> bool
     ensures { result ≡ not (is_value (value_view value.now)) }
 {

@@ -49,7 +49,7 @@ impl Groups {
         }
     }
 
-    /// All rows as one group, of which there are none.
+    /// Returns all rows as one group, of which there are none.
     pub(crate) fn whole(alloc: Global, aggregates: &[Aggregate]) -> Result<Groups, AllocError>
         ensures { IfOk result (λ groups. HasGroups None aggregates.now groups []) }
     {

@@ -83,7 +83,7 @@ pub(crate) fn kept_greatest(
     }
 }
 
-/// True if numbers of that type are summed so.
+/// Returns true if numbers of that type are summed so.
 fn is_summed(packed_type: PackedType, summed: Summed) -> bool
     ensures { IsTrue result → packed_type ≡ summed_type summed }
 {

@@ -34,7 +34,7 @@ fn leaf_truths(
     Ok(truths)
 }
 
-/// True if no row is wanted.
+/// Returns true if no row is wanted.
 fn none_is_wanted(wanted: &[bool]) -> bool
     ensures { IsTrue result → (row : ℕ) → slice_index_or wanted.now row false ≡ false }
 {

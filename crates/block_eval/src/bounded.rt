@@ -18,7 +18,7 @@ pub struct Bounded<'a> {
     pub bounds: Option<Bounds>,
 }
 
-/// Null on each row.
+/// Returns null on each row.
 pub fn nulls<'a>() -> Bounded<'a>
     ensures { IsSame None result }
 {

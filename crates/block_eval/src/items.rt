@@ -39,7 +39,7 @@ fn slot_of(number: i64) -> usize
     (number.cast_unsigned() % SLOTS as u64) as usize
 }
 
-/// False if a number does not lie between bounds that are known.
+/// Returns false if a number does not lie between bounds that are known.
 fn may_lie_within(known: Option<Bounds>, number: i64) -> bool
     ensures { IsWithinKnown known (Some number) → IsTrue result }
 {
@@ -87,7 +87,7 @@ fn slots_of(alloc: Global, numbers: &[i64]) -> Result<Vec<u16>, AllocError>
     Ok(slots)
 }
 
-/// True if null is one of the items.
+/// Returns true if null is one of the items.
 fn has_null(items: &[Option<i128>]) -> bool
     ensures { result ≡ is_among int_cmp None items.now }
 {
@@ -117,7 +117,7 @@ impl Items {
         })
     }
 
-    /// True if a number is one of the numbers.
+    /// Returns true if a number is one of the numbers.
     #[inline(always)]
     fn contains(&self, number: i64) -> bool
         requires { AreSlotted self.now.numbers.items self.now.slots.items }
@@ -135,7 +135,7 @@ impl Items {
         self.numbers.as_slice().contains(&number)
     }
 
-    /// True if a number or null is one of the items.
+    /// Returns true if a number or null is one of the items.
     #[inline(always)]
     fn has(&self, number: Option<i64>) -> bool
         requires { AreSlotted self.now.numbers.items self.now.slots.items }

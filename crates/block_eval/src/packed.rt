@@ -26,7 +26,7 @@ pub fn type_of_kind(kind: NumberKind) -> PackedType
     }
 }
 
-/// True if a type is the one that is asked for.
+/// Returns true if a type is the one that is asked for.
 fn are_same(given: PackedType, asked: PackedType) -> bool
     ensures { IsTrue result → given ≡ asked }
 {
@@ -92,7 +92,7 @@ pub fn unpacked_at(
     })
 }
 
-/// The truths that marks are.
+/// Writes the truths that marks are.
 fn truth_each(marks: &[bool], out: &mut [Truth])
     requires { length out.old ≡ length marks.now }
     ensures { (i : ℕ) → i < length out.new

@@ -27,7 +27,7 @@ fn number_of(value: bool) -> i64
     if value { 1 } else { 0 }
 }
 
-/// The numbers of truths, and which of them are null.
+/// Writes the numbers of truths, and which of them are null.
 fn number_each(truths: &[Truth], values: &mut [i64], nulls: &mut [bool])
     requires values { length values.old ≡ length truths.now }
     requires nulls { length nulls.old ≡ length truths.now }

@@ -18,7 +18,7 @@ pub struct Rank {
 }
 
 impl Rank {
-    /// True if a value comes before another.
+    /// Returns true if a value comes before another.
     fn is_before(self, a: &Value<'_>, b: &Value<'_>) -> bool {
         if self.descending { b < a } else { a < b }
     }

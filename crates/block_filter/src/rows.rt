@@ -32,7 +32,7 @@ fn outcome_at(
     }
 }
 
-/// True if an outcome is true: null is not, and a division by zero is not.
+/// Returns true if an outcome is true: null is not, and a division by zero is not.
 fn is_true(outcome: Option<Truth>) -> bool
     ensures { result ≡ is_true_outcome outcome }
 {

@@ -106,7 +106,7 @@ impl CellBuffer {
         self.len = 0;
     }
 
-    /// The cells, as a block keeps them.
+    /// Returns the cells, as a block keeps them.
     pub fn pack(&self, alloc: Global) -> Result<PackedColumn, AllocError>
         ensures { IfOk result (λ column. column ≡ self.now.cells) }
     {

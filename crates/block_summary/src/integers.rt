@@ -61,7 +61,7 @@ fn kept_nulls(alloc: Global, nulls: &[bool], null_count: usize) -> Result<Vec<bo
     Vec::from_slice(alloc, nulls)
 }
 
-/// True if a row is null; none is, past the marks.
+/// Returns true if a row is null; none is, past the marks.
 #[inline(always)]
 fn is_null_at(nulls: &[bool], row: usize) -> bool
     ensures { result ≡ slice_index_or nulls.now row false }
@@ -161,7 +161,7 @@ impl Integers {
         }
     }
 
-    /// The least and the greatest number; none if each row is null.
+    /// Returns the least and the greatest number, or `None` if each row is null.
     pub fn bounds(&self) -> Option<Bounds>
         ensures { HaveBounds result self.now }
     {

@@ -97,14 +97,14 @@ impl PackedColumn {
         self.numbers.unpack_nulls(out);
     }
 
-    /// The least and the greatest number; none if each row is null.
+    /// Returns the least and the greatest number, or `None` if each row is null.
     pub fn bounds(&self) -> Option<Bounds>
         ensures { HaveBounds result (numbers_of self.now) }
     {
         self.numbers.bounds()
     }
 
-    /// The least and the greatest cell that are not null if there are such.
+    /// Returns the least and the greatest cell that are not null, if there are any.
     pub fn ends(&self) -> (Option<Value<'static>>, Option<Value<'static>>)
         ensures least { HasLeast (option_map value_view result.0) self.now }
         ensures greatest { HasGreatest (option_map value_view result.1) self.now }

@@ -242,7 +242,7 @@ impl Range {
         self.null_count
     }
 
-    /// True if a column of this range can have a cell that passes the test.
+    /// Returns true if a column of this range can have a cell that passes the test.
     pub fn admits(&self, test: &Test<'_>) -> bool
         ensures { result ≡ admits_test test.now.op self.now (value_view test.now.literal) }
     {

@@ -12,7 +12,7 @@ const NO_NUMBERS: Bounds = Bounds {
     greatest: i64::MIN,
 };
 
-/// Two numbers between which those lie that are greater than a literal.
+/// Returns two numbers between which those lie that are greater than a literal.
 fn span_above(literal: i64) -> Bounds
     ensures { SpansPassing Comparison.GreaterThan literal result }
 {
@@ -25,7 +25,7 @@ fn span_above(literal: i64) -> Bounds
     }
 }
 
-/// Two numbers between which those lie that are less than a literal.
+/// Returns two numbers between which those lie that are less than a literal.
 fn span_below(literal: i64) -> Bounds
     ensures { SpansPassing Comparison.LessThan literal result }
 {
@@ -38,14 +38,14 @@ fn span_below(literal: i64) -> Bounds
     }
 }
 
-/// True if those pass that do not lie between the two numbers.
+/// Returns true if those pass that do not lie between the two numbers.
 pub fn is_turned(op: Comparison) -> bool
     ensures { result ≡ is_turned_of op }
 {
     matches!(op, Comparison::NotEqual)
 }
 
-/// Two numbers between which those lie that pass a comparison with a literal; of what is not equal, those that are equal.
+/// Returns two numbers between which those lie that pass a comparison with a literal; for `ne`, those that are equal.
 pub fn span_of(op: Comparison, literal: i64) -> Bounds
     ensures { SpansPassing op literal result }
 {

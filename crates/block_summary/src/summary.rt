@@ -96,7 +96,7 @@ fn column_range(alloc: Global, rows: &[Vec<Value<'_>>], col: usize) -> Result<Ra
     Ok(range)
 }
 
-/// True if a block with this summary can have a row whose cell in a column passes the test.
+/// Returns true if a block with this summary can have a row whose cell in a column passes the test.
 pub fn admits(summary: &Summary, col: usize, test: &Test<'_>) -> bool
     requires { col < length summary.now }
     ensures { result ≡ admits_test test.now.op (slice_index_or summary.now col no_range)

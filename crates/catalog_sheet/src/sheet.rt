@@ -65,7 +65,7 @@ impl Sheet {
         self.keep(pushed);
     }
 
-    /// The bytes, if memory has not run out.
+    /// Returns the bytes, if memory has not run out.
     pub fn end(self) -> Result<Vec<u8>, AllocError>
         ensures { IfOk result (λ bytes. (self.is_short ≡ false) × (bytes ≡ self.bytes)) }
     {

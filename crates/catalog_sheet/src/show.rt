@@ -125,7 +125,7 @@ fn push_table(sheet: &mut Sheet, table: &Table)
     }
 }
 
-/// For each table a line, and after it a line for each of its columns: the name, the datatype with its format, how many cells are null, the least and the greatest
+/// Returns for each table a line, and after it a line for each of its columns: the name, the datatype with its format, how many cells are null, the least and the greatest
 /// value of all rows, if there is one, and whether the column is one of the key.
 pub fn catalog_text(alloc: Global, catalog: &Catalog) -> Result<Vec<u8>, AllocError>
     ensures { IfOk result (λ text. text.items ≡ tables_text catalog.now.tables) }

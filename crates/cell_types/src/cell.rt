@@ -23,14 +23,14 @@ use crate::white_space::{is_normal, normal_copy};
 use std::alloc::Global;
 use std::borrow::CowStr;
 
-/// True if a text is among some.
+/// Returns true if a text is among some.
 fn is_among(texts: &[String], text: &str) -> bool
     ensures { result ≡ list_any (λ other. bytes_eq (string_bytes other) text.now) texts.now }
 {
     texts.iter().any(|other| other.as_str() == text)
 }
 
-/// True if a text stands for null in a column.
+/// Returns true if a text stands for null in a column.
 pub fn is_null_text(column: &Column, text: &str) -> bool
     ensures { result ≡ is_null_text_of (column_view column.now) text.now }
 {
@@ -97,7 +97,7 @@ fn read_content<'a>(column: &Column, text: &str) -> Result<Value<'a>, CellFault>
     }
 }
 
-/// A text, or the column's default in the place of an empty one, which is borrowed.
+/// Returns a text, or the column's default in the place of an empty one, which is borrowed.
 fn string_or_default<'a>(column: &'a Column, text: CowStr<'a>) -> CowStr<'a>
     ensures { cow_str_bytes result
         ≡ text_or_default_of (column_view column.now) (cow_str_bytes text.entry) }
@@ -163,7 +163,7 @@ pub fn read_text<'a>(
     read_content(column, copy.as_str())
 }
 
-/// [`read_text`] of a borrowed text.
+/// Does what [`read_text`] does, for a borrowed text.
 pub fn read_cell<'a>(alloc: Global, column: &Column, text: &'a str) -> Result<Value<'a>, CellFault>
     ensures value { IfOk result
         (λ value. value_of (column_view column.now) text.now ≡ Ok (value_view value)) }

@@ -21,7 +21,7 @@ pub struct Column {
 }
 
 impl Column {
-    /// True if each text has a value in the column: texts are read as they stand, and may be null.
+    /// Returns true if each text has a value in the column: texts are read as they stand, and may be null.
     #[inline(always)]
     pub fn takes_all_texts(&self) -> bool
         ensures { result ≡ takes_all_texts_of (column_view self.now) }

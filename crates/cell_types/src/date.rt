@@ -52,7 +52,7 @@ fn four_digit_number(digits: [u8; 4]) -> Option<u16>
     Some(u16::from(hundreds) * 100 + u16::from(ones))
 }
 
-/// The year, the month and the day that a text writes in a form, whether the calendar has them or not.
+/// Returns the year, the month and the day that a text writes in a form, whether the calendar has them or not.
 fn numbers(form: DateForm, text: &[u8]) -> Option<(u16, u8, u8)>
     ensures { MatchOption result (HasNoNumbers form text.now)
         (λ p. HasDateNumbers form text.now p.0 p.1 p.2) }

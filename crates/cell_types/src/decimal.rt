@@ -59,7 +59,7 @@ fn number_of_millionths(whole: &[u8], places: &[u8]) -> Option<u64>
     number_after(number, &zeros[..6 - places.len()])
 }
 
-/// True if the texts before and after a point are digits, and at least one digit.
+/// Returns true if the texts before and after a point are digits, and at least one digit.
 fn are_parts(whole: &[u8], fraction: &[u8]) -> bool
     ensures { result ≡ are_parts_of_decimal (whole.now ++ fraction.now) }
 {
@@ -69,7 +69,7 @@ fn are_parts(whole: &[u8], fraction: &[u8]) -> bool
     are_digits(whole) && are_digits(fraction)
 }
 
-/// True if each digit is 0.
+/// Returns true if each digit is 0.
 fn are_zeros(digits: &[u8]) -> bool
     ensures { result ≡ list_all is_zero digits.now }
 {

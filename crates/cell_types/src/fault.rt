@@ -36,7 +36,7 @@ impl From<AllocError> for CellFault {
 }
 
 impl CellFault {
-    /// Its name, as messages have it.
+    /// Returns its name, as messages have it.
     pub fn name(&self) -> &'static str
         ensures { result.now ≡ cell_fault_name self.now }
     {

@@ -24,7 +24,7 @@ pub fn without_sign(text: &[u8]) -> &[u8]
     }
 }
 
-/// True if a text begins with a minus.
+/// Returns true if a text begins with a minus.
 #[inline(always)]
 pub fn is_negative(text: &[u8]) -> bool
     ensures { result ≡ starts_with_minus text.now }
@@ -32,14 +32,14 @@ pub fn is_negative(text: &[u8]) -> bool
     matches!(text, [b'-', ..])
 }
 
-/// True if each byte is a digit.
+/// Returns true if each byte is a digit.
 pub fn are_digits(text: &[u8]) -> bool
     ensures { result ≡ list_all is_ascii_digit text.now }
 {
     text.iter().all(|byte| byte.is_ascii_digit())
 }
 
-/// True if a text is an optional sign and one or more digits.
+/// Returns true if a text is an optional sign and one or more digits.
 fn is_integer(text: &str) -> bool
     ensures { result ≡ is_integer_text text.now }
 {

@@ -12,7 +12,7 @@ fn is_white(byte: u8) -> bool
     matches!(byte, b' ' | b'\t' | b'\n' | b'\r')
 }
 
-/// True if a text has white space only as single spaces between words.
+/// Returns true if a text has white space only as single spaces between words.
 pub fn is_normal(text: &str) -> bool
     ensures { IsTrue result ↔ (normal_text text.now ≡ text.now) }
 {

@@ -46,7 +46,7 @@ pub fn number<'a>(matches: &ArgMatches<'a>, id: &str) -> Option<u32>
     matches.get_one::<u32>(id)
 }
 
-/// True if an option without a value is there.
+/// Returns true if an option without a value is there.
 pub fn flag<'a>(matches: &ArgMatches<'a>, id: &str) -> bool
     ensures { HasFlag (one_of id.now (rows_of (found_of matches.now))) result }
 {

@@ -209,7 +209,7 @@ impl TextReader {
     }
 }
 
-/// True if the empty text alone is null, and no other text and no fault stands for it.
+/// Returns true if the empty text alone is null, and no other text and no fault stands for it.
 fn empty_is_null(column: &Column) -> bool
     ensures { result ≡ true → EmptyIsNull (column_view column.now) }
 {

@@ -33,7 +33,7 @@ impl<'t, 'p> Model for Part<'t, 'p> {
 impl<'t, 'p> Part<'t, 'p> {
     ghost use Rattle.csv_fields.specs.Part.{part_between, StandBetween};
 
-    /// Rows of one width, whose fields are between these places.
+    /// Returns rows of one width, whose fields are between these places.
     #[inline(always)]
     pub fn new(text: &'t str, width: usize, rows: usize, places: &'p [usize]) -> Part<'t, 'p>
         requires { StandBetween text.now places.now (rows * width) }
@@ -67,7 +67,7 @@ impl<'t, 'p> Part<'t, 'p> {
         between(piece(self.text, start, place_at(self.places, n + 1)))
     }
 
-    /// A field, as [`Part::field`] gives it, and the file from the field's bytes on.
+    /// Returns a field, as [`Part::field`] gives it, and the file from the field's bytes on.
     #[inline(always)]
     pub fn field_and_rest(&self, row: usize, col: usize) -> (Raw<'t>, &'t [u8])
         requires row { row < length self.now.rows }

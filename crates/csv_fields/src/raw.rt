@@ -48,14 +48,14 @@ impl<'a> Raw<'a> {
 /// A double quote inside a quoted field is written as two.
 const PAIR: &str = "\"\"";
 
-/// True if a pair of double quotes stands in the text, so that halving changes it.
+/// Returns true if a pair of double quotes stands in the text, so that halving changes it.
 fn has_pair(text: &str) -> bool
     ensures { MatchBool result (halved text.now ≢ text.now) (halved text.now ≡ text.now) }
 {
     has_quote(text) && text.contains(PAIR)
 }
 
-/// True if a double quote stands in the text.
+/// Returns true if a double quote stands in the text.
 #[inline(always)]
 fn has_quote(text: &str) -> bool
     ensures { result ≡ list_any (λ byte. byte == double_quote) text.now }

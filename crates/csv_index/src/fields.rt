@@ -32,7 +32,7 @@ impl<'i, 'a> Model for Fields<'i, 'a> {
 }
 
 impl<'i, 'a> Fields<'i, 'a> {
-    /// The next field, in a time that grows with the field and not with the file: each block of it is passed once. It takes no memory.
+    /// Returns the next field, in a time that grows with the field and not with the file: each block of it is passed once. It takes no memory.
     #[inline(always)]
     pub fn next_field(&mut self) -> Option<Raw<'a>>
         ensures { MatchOption result ((self.old ≡ []) × (self.new ≡ []))

@@ -69,7 +69,7 @@ impl Index {
         Index::of_utf8(alloc, bytes)
     }
 
-    /// [`Index::build`] of bytes that are known to be UTF-8.
+    /// Does what [`Index::build`] does, for bytes that are known to be UTF-8.
     pub fn of_utf8(alloc: Global, bytes: &[u8]) -> Result<Index, TextFault>
         requires { IsUtf8 bytes.now }
         ensures table { IfOk result (λ index. IsIndexOf index bytes.now) }

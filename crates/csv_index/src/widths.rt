@@ -21,7 +21,7 @@ pub struct Widths {
 }
 
 impl Widths {
-    /// Before the first byte.
+    /// Returns the widths before the first byte.
     pub fn new() -> Widths
         ensures { result ≡ uncounted }
     {
@@ -57,7 +57,7 @@ impl Widths {
         self.places += ends.count_ones() as usize;
     }
 
-    /// The records of a block end, one after another. Its structural places are not counted.
+    /// Ends the records of a block, one after another. Its structural places are not counted.
     #[inline(always)]
     fn end_records(&mut self, ends: u64, eol: u64)
         requires start { self.old.start ≤ self.old.places }
@@ -77,7 +77,7 @@ impl Widths {
         }
     }
 
-    /// The record under way ends at the structural place of that number, the first of which is 0.
+    /// Ends the record under way at the structural place of that number, the first of which is 0.
     #[inline(always)]
     pub fn end_record(&mut self, at: usize)
         requires start { self.old.start ≤ at }

@@ -10,7 +10,7 @@ use table_store::NamedFile;
 /// A file of at least this many bytes is announced before it is read.
 const LONG: u64 = 50_000_000;
 
-/// Whether a name is that of a CSV file, in letters of either case.
+/// Returns whether a name is that of a CSV file, in letters of either case.
 fn is_csv(name: &str) -> bool {
     match name.as_bytes().last_chunk::<4>() {
         Some(end) => end.eq_ignore_ascii_case(b".csv"),
@@ -104,7 +104,7 @@ fn warn_left_out(rt: &HostRuntime, folder: &str, name: &str) -> io::Result<()> {
     }
 }
 
-/// The path of a name in a folder.
+/// Returns the path of a name in a folder.
 pub fn path_in(alloc: Global, folder: &str, name: &str) -> Result<String, AllocError> {
     format!(in alloc; "{folder}/{name}")
 }
@@ -126,7 +126,7 @@ fn warn_other(rt: &HostRuntime, name: &str) -> io::Result<()> {
     eprintln!(rt; "warning: {name}: left out: no plain file")
 }
 
-/// The bytes of the plain file of a name in a folder; of a file above the limit its front alone. If someone looks on, it tells of a long one. What is no plain file is
+/// Returns the bytes of the plain file of a name in a folder; of a file above the limit its front alone. If someone looks on, it tells of a long one. What is no plain file is
 /// an invalid input.
 pub fn file_in(rt: &HostRuntime, folder: &str, name: &str, tells: bool) -> io::Result<Vec<u8>> {
     let path = path_in(rt.alloc(), folder, name)?;

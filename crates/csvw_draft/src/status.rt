@@ -16,7 +16,7 @@ pub const DEVICE: u8 = 3;
 /// The exit status if memory runs out.
 pub const MEMORY: u8 = 4;
 
-/// The exit status of an end: its own, or that of an error of the system.
+/// Returns the exit status of an end: its own, or that of an error of the system.
 pub fn status_of(end: io::Result<u8>) -> u8 {
     match end {
         Ok(status) => status,

@@ -15,7 +15,7 @@ pub fn tell(rt: &HostRuntime, lines: &Line) -> io::Result<()> {
     rt.eprint(lines.text.as_str())
 }
 
-/// The exit status after what was done: that one, or that of an error of the system.
+/// Returns the exit status after what was done: `status`, or that of an error of the system.
 pub fn status_after(done: io::Result<()>, status: u8) -> u8 {
     match done {
         Ok(()) => status,
@@ -40,7 +40,7 @@ pub fn refuse_cause(rt: &HostRuntime, cause: &LoadFault, after: &str) -> u8 {
     }
 }
 
-/// [`refuse_for`] for several things.
+/// Does what [`refuse_for`] does, for several lines.
 pub fn refuse(rt: &HostRuntime, lines: &[String]) -> u8 {
     for line in lines {
         let status = refuse_for(rt, line.as_str());

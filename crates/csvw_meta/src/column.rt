@@ -24,7 +24,7 @@ pub(crate) fn name_of(column: &Value) -> &str
     text_member(column, "name")
 }
 
-/// True if `virtual` is absent or false.
+/// Returns true if `virtual` is absent or false.
 fn is_real(column: &Value) -> bool
     ensures { result ≡ is_real_of (member_of (codes "virtual") (view column.now)) }
 {
@@ -34,7 +34,7 @@ fn is_real(column: &Value) -> bool
     }
 }
 
-/// True if one of the columns has the name.
+/// Returns true if one of the columns has the name.
 pub(crate) fn has_name(columns: &[Value], name: &str) -> bool
     ensures { result ≡ has_name_among (map view columns.now) name.now }
 {

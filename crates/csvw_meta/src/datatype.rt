@@ -52,14 +52,14 @@ fn base_in(datatype: &Value) -> Option<Datatype>
     }
 }
 
-/// True if the datatype of a value's name is served.
+/// Returns true if the datatype of a value's name is served.
 fn is_served(datatype: &Value) -> bool
     ensures { result ≡ is_some (base_of (view datatype.now)) }
 {
     base_in(datatype).is_some()
 }
 
-/// True if a datatype has no format, or is one whose texts have one.
+/// Returns true if a datatype has no format, or is one whose texts have one.
 fn may_have_format(datatype: &Value) -> bool
     ensures { result ≡ may_have_format_of (view datatype.now) }
 {
@@ -92,7 +92,7 @@ fn date_form(format: &str) -> Option<DateForm>
     DateForm::of_pattern(format)
 }
 
-/// True if a datatype has that format.
+/// Returns true if a datatype has that format.
 fn has_format(base: &Datatype, format: &Value) -> bool
     ensures { result ≡ is_some (datatype_with (datatype_view base.now) (Some (view format.now))) }
 {
@@ -109,7 +109,7 @@ fn has_format(base: &Datatype, format: &Value) -> bool
     }
 }
 
-/// True if a value is a datatype that is served.
+/// Returns true if a value is a datatype that is served.
 fn is_datatype(datatype: &Value) -> bool
     ensures { result ≡ is_some (datatype_in_of (view datatype.now)) }
 {
@@ -119,7 +119,7 @@ fn is_datatype(datatype: &Value) -> bool
     }
 }
 
-/// That a datatype has none of the constraints, which are not served.
+/// Checks that a datatype has none of the constraints, which are not served.
 #[tactic(auto, unfolding(crate::specs::Datatype::constraint_conditions))]
 fn check_constraints<'v>(datatype: &'v Value) -> Result<(), Refusal<'v>>
     ensures { condition_of result ≡ first_cause (constraint_conditions (view datatype.now)) }

@@ -53,7 +53,7 @@ fn read_document(alloc: Global, bytes: &[u8]) -> Result<Value, MetaFault>
     }
 }
 
-/// True if the metadata is of a group of tables.
+/// Returns true if the metadata is of a group of tables.
 fn is_group(metadata: &Value) -> bool
     ensures { result ≡ is_group_of (view metadata.now) }
 {

@@ -23,7 +23,7 @@ fn is_url_byte(b: u8) -> bool
     is_name_byte(b) || b == b'-'
 }
 
-/// True if an ASCII letter comes first.
+/// Returns true if an ASCII letter comes first.
 fn begins_with_letter(bytes: &[u8]) -> bool
     ensures { result ≡ (nat_lt 0 (length bytes.now) && is_ascii_alphabetic
         (slice_index bytes.now 0)) }
@@ -56,7 +56,7 @@ pub(crate) fn is_column_name(name: &str) -> bool
     bytes.len() <= MOST_NAME_BYTES && begins_with_letter(bytes) && are_name_bytes(&bytes[1..])
 }
 
-/// True if a text has the form of a table's url: at most 132 bytes, an ASCII letter, then letters, digits, low lines and hyphens, then `.csv`.
+/// Returns true if a text has the form of a table's url: at most 132 bytes, an ASCII letter, then letters, digits, low lines and hyphens, then `.csv`.
 pub fn is_table_url(url: &str) -> bool
     ensures { result ≡ is_table_url_of url.now }
 {

@@ -13,7 +13,7 @@ use crate::texts::{is_texts, make_texts};
 use serde_json::Value;
 use std::alloc::{AllocError, Global};
 
-/// True if it is a text of at most as many bytes as metadata may have, as each text in metadata is.
+/// Returns true if it is a text of at most as many bytes as metadata may have, as each text in metadata is.
 fn is_short_text(value: &Value) -> bool
     ensures { result ≡ is_short_text_of (view value.now) }
 {
@@ -66,7 +66,7 @@ pub(crate) fn make_default(alloc: Global, default: Option<&Value>) -> Result<Str
     String::from_str(alloc, default.and_then(Value::as_str).unwrap_or(""))
 }
 
-/// True if a value is required: not if no level says so.
+/// Returns true if a value is required: not if no level says so.
 pub(crate) fn is_required(required: Option<&Value>) -> bool
     ensures { result ≡ required_of (option_map (λ v. view v.now) required.entry) }
 {

@@ -18,14 +18,14 @@ fn text_of(value: &Value) -> &str
     value.as_str().unwrap_or("")
 }
 
-/// True if one of the values is the text.
+/// Returns true if one of the values is the text.
 fn has_text(values: &[Value], text: &str) -> bool
     ensures { result ≡ list_any (λ value. bytes_eq text.now (text_in (view value))) values.now }
 {
     values.iter().any(|value| text == text_of(value))
 }
 
-/// True if no text stands twice.
+/// Returns true if no text stands twice.
 fn are_different(values: &[Value]) -> bool
     ensures { result ≡ are_different_of (map text_in (map view values.now)) }
 {
@@ -37,7 +37,7 @@ fn are_different(values: &[Value]) -> bool
     true
 }
 
-/// True if each text is the name of a column.
+/// Returns true if each text is the name of a column.
 fn are_names(columns: &[Value], values: &[Value]) -> bool
     ensures { result ≡ list_all (has_name_among (map view columns.now))
         (map text_in (map view values.now)) }
@@ -45,7 +45,7 @@ fn are_names(columns: &[Value], values: &[Value]) -> bool
     values.iter().all(|value| has_name(columns, text_of(value)))
 }
 
-/// True if there is a text, each is the name of a column, and none stands twice.
+/// Returns true if there is a text, each is the name of a column, and none stands twice.
 #[tactic(auto, unfolding(crate::specs::Key::are_key_names))]
 fn are_key_names(columns: &[Value], values: &[Value]) -> bool
     ensures { result ≡ are_key_names_of (map view columns.now) (map text_in (map view values.now)) }
@@ -56,7 +56,7 @@ fn are_key_names(columns: &[Value], values: &[Value]) -> bool
     are_different(values)
 }
 
-/// True if it is a text or an array of texts, which are such names.
+/// Returns true if it is a text or an array of texts, which are such names.
 pub(crate) fn is_key(columns: &[Value], key: &Value) -> bool
     ensures { result ≡ is_key_of (map view columns.now) (view key.now) }
 {

@@ -19,7 +19,7 @@ pub(crate) fn member<'v>(value: &'v Value, name: &str) -> Option<&'v Value>
     }
 }
 
-/// True if there is such a member.
+/// Returns true if there is such a member.
 pub(crate) fn has(value: &Value, name: &str) -> bool
     ensures { result ≡ has_of name.now (view value.now) }
 {
@@ -43,14 +43,14 @@ pub(crate) fn array_member<'v>(value: &'v Value, name: &str) -> &'v [Value]
     }
 }
 
-/// That there is no such member, for it is not served.
+/// Checks that there is no such member, for it is not served.
 pub(crate) fn absent<'k>(value: &Value, name: &'k str) -> Result<(), Refusal<'k>>
     ensures { condition_of result ≡ absent_of name.now (view value.now) }
 {
     ensure_served(!has(value, name), name)
 }
 
-/// That there is a value, and that there are no more than the limit.
+/// Checks that there is a value, and that there are no more than the limit.
 #[tactic(auto, unfolding(crate::specs::Members::count_conditions))]
 pub(crate) fn check_count<'k>(
     limit: u32,
@@ -66,7 +66,7 @@ pub(crate) fn check_count<'k>(
     ensure(values.len() <= limit as usize, many)
 }
 
-/// That member at the first level that has it.
+/// Returns that member at the first level that has it.
 pub(crate) fn nearest<'v>(levels: &[&'v Value], name: &str) -> Option<&'v Value>
     ensures { option_map (λ v. view v.now) result
         ≡ nearest_of name.now (map (λ level. view level.now) levels.now) }

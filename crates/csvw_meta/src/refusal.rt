@@ -28,7 +28,7 @@ impl<'a> Refusal<'a> {
     }
 }
 
-/// That the test is true.
+/// Checks that the test is true.
 pub(crate) fn ensure<'a>(test: bool, fault: MetaFault) -> Result<(), Refusal<'a>>
     ensures { condition_of result ≡ ensure_of test (fault_cause fault) }
 {
@@ -39,7 +39,7 @@ pub(crate) fn ensure<'a>(test: bool, fault: MetaFault) -> Result<(), Refusal<'a>
     }
 }
 
-/// The test is true, or else the member or the datatype of that name is not served.
+/// Checks that the test is true; if not, the member or the datatype of that name is not served.
 pub(crate) fn ensure_served<'a>(test: bool, key: &'a str) -> Result<(), Refusal<'a>>
     ensures { condition_of result ≡ ensure_of test (unsupported key.now) }
 {

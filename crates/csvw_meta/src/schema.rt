@@ -51,7 +51,7 @@ fn check_columns<'v>(columns: &'v [Value]) -> Result<(), Refusal<'v>>
     Ok(())
 }
 
-/// True if a schema with those columns has no `primaryKey`, or one that is a key.
+/// Returns true if a schema with those columns has no `primaryKey`, or one that is a key.
 fn has_key_or_none(schema: &Value, columns: &[Value]) -> bool
     ensures { result ≡ fits (is_key_of (map view columns.now))
         (member_of (codes "primaryKey") (view schema.now)) }

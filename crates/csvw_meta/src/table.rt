@@ -23,7 +23,7 @@ fn url_of(table: &Value) -> &str
     text_member(table, "url")
 }
 
-/// True if one of the tables has the url.
+/// Returns true if one of the tables has the url.
 fn has_url(tables: &[Value], url: &str) -> bool
     ensures { result ≡ has_url_among (map view tables.now) url.now }
 {

@@ -18,28 +18,28 @@ pub(crate) fn parts(value: &Value) -> &[Value]
     }
 }
 
-/// True if it is a text, or an array of texts.
+/// Returns true if it is a text, or an array of texts.
 pub(crate) fn is_texts(value: &Value) -> bool
     ensures { result ≡ is_texts_of (view value.now) }
 {
     parts(value).iter().all(|part| part.is_string())
 }
 
-/// True if it is null, or a text or an array of texts.
+/// Returns true if it is null, or a text or an array of texts.
 fn is_language_value(value: &Value) -> bool
     ensures { result ≡ is_language_value_of (view value.now) }
 {
     value.is_null() || is_texts(value)
 }
 
-/// True if each member is null, or a text or an array of texts.
+/// Returns true if each member is null, or a text or an array of texts.
 fn are_language_values(members: &Map<String, Value>) -> bool
     ensures { result ≡ list_all (λ v. is_language_value_of (view v)) (values members.now) }
 {
     members.values().all(|value| is_language_value(value))
 }
 
-/// True if it is a text, an array of texts, or a language map, in which members that are null count as absent.
+/// Returns true if it is a text, an array of texts, or a language map, in which members that are null count as absent.
 pub(crate) fn is_titles(value: &Value) -> bool
     ensures { result ≡ is_titles_of (view value.now) }
 {

@@ -18,7 +18,7 @@ pub fn array_member<'v>(value: &'v Value, name: &str) -> &'v [Value] {
     items.as_slice()
 }
 
-/// True if it is a text that one of the objects has as a member.
+/// Returns true if it is a text that one of the objects has as a member.
 pub fn is_among(objects: &[Value], name: &str, text: &Value) -> bool {
     for object in objects {
         if let Some(found) = object.get(name)
@@ -30,7 +30,7 @@ pub fn is_among(objects: &[Value], name: &str, text: &Value) -> bool {
     false
 }
 
-/// True if it is the name of one of the columns, or an array of different such names.
+/// Returns true if it is the name of one of the columns, or an array of different such names.
 pub fn is_key(columns: &[Value], key: &Value) -> bool {
     let names = match key {
         Value::Array(names) => names.as_slice(),

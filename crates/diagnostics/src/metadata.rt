@@ -67,7 +67,7 @@ fn refuse_all(report: &mut Report, place: Place, fault: MetaFault, value: &Value
     refuse(report, place, fault, "", value);
 }
 
-/// The members of a level, each by itself as one that stands there.
+/// Reports the members of a level, each by itself as one that stands there.
 fn members(report: &mut Report, place: Place, around: &(&str, &str), value: &Value) {
     let Some(members) = value.as_object() else {
         return;
@@ -80,7 +80,7 @@ fn members(report: &mut Report, place: Place, around: &(&str, &str), value: &Val
     }
 }
 
-/// A column after the earlier ones.
+/// Reports a column after the earlier ones.
 fn column(report: &mut Report, place: Place, earlier: &[Value], value: &Value) {
     if !value.is_object() {
         return refuse_all(report, place, MetaFault::NotObject, value);
@@ -97,7 +97,7 @@ fn column(report: &mut Report, place: Place, earlier: &[Value], value: &Value) {
     }
 }
 
-/// The schema of a table, or of a group.
+/// Reports the schema of a table, or of a group.
 fn schema(report: &mut Report, table: Option<usize>, value: &Value) {
     let place = Place {
         table,
@@ -131,7 +131,7 @@ fn schema(report: &mut Report, table: Option<usize>, value: &Value) {
     }
 }
 
-/// A table after the earlier ones of its group, with the schema of the group if that has one; or one that stands alone.
+/// Reports a table after the earlier ones of its group, with the schema of the group if that has one; or one that stands alone.
 fn table(
     report: &mut Report,
     number: Option<usize>,
@@ -169,7 +169,7 @@ fn table(
     }
 }
 
-/// True if some of the tables have no schema of their own.
+/// Returns true if some of the tables have no schema of their own.
 fn lack_schema(tables: &[Value]) -> bool {
     for table in tables {
         if table.is_object()
@@ -181,7 +181,7 @@ fn lack_schema(tables: &[Value]) -> bool {
     false
 }
 
-/// A group of tables.
+/// Reports a group of tables.
 fn group(report: &mut Report, value: &Value) {
     let place = Place {
         table: None,
@@ -208,7 +208,7 @@ fn group(report: &mut Report, value: &Value) {
     }
 }
 
-/// Metadata.
+/// Reports metadata.
 fn metadata(report: &mut Report, value: &Value) {
     match member(value, "tables") {
         Some(_) => group(report, value),

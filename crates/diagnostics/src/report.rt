@@ -33,7 +33,7 @@ impl Report {
         }
     }
 
-    /// True if there are as many refusals as are reported, or memory ran out.
+    /// Returns true if there are as many refusals as are reported, or memory ran out.
     pub fn is_full(&self) -> bool {
         self.is_short || self.lines.len() >= MOST_REFUSALS
     }

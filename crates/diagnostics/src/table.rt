@@ -87,7 +87,7 @@ fn refuse_fault(report: &mut Report, url: &str, bytes: &[u8], fault: TextFault, 
     push_file_help(&mut report.helps, url, bytes, fault);
 }
 
-/// True if a column may have that header: its name, or one of its titles.
+/// Returns true if a column may have that header: its name, or one of its titles.
 fn is_called(column: &Column, cell: &str) -> bool {
     let mut is_called = column.name.as_str() == cell;
     for title in &column.titles {

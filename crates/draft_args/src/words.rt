@@ -67,7 +67,7 @@ pub enum DraftCommand<'a> {
     Convert(Conversion<'a>),
 }
 
-/// What `clap` reads of the words by the whole command, of which `help` is no word.
+/// Returns what `clap` reads of the words by the whole command, of which `help` is no word.
 fn line_matches<'a>(alloc: Global, words: &'a [&'a str]) -> Result<ArgMatches<'a>, ArgsFault>
     ensures matches { IfOk result (IsReadingOf whole_command (texts words.now)) }
     ensures fault { IfErr result (IsRefusal whole_command (texts words.now)) }
@@ -84,7 +84,7 @@ fn line_matches<'a>(alloc: Global, words: &'a [&'a str]) -> Result<ArgMatches<'a
     matches_of(whole, words)
 }
 
-/// What the words without a subcommand ask for.
+/// Returns what the words without a subcommand ask for.
 fn draft_asked<'a>(matches: &ArgMatches<'a>) -> Result<DraftCommand<'a>, ArgsFault>
     ensures words { IfOk result (λ words. AsksSo words (rows_of (found_of matches.now)) None) }
     ensures fault { IfErr result (λ fault. (fault ≡ ArgsFault.Usage)
@@ -108,7 +108,7 @@ fn draft_asked<'a>(matches: &ArgMatches<'a>) -> Result<DraftCommand<'a>, ArgsFau
     }
 }
 
-/// What the words of a subcommand ask for, before which no argument stands.
+/// Returns what the words of a subcommand ask for, before which no argument stands.
 fn subcommand_words<'a>(
     matches: &ArgMatches<'a>,
     name: &'a str,
@@ -137,7 +137,7 @@ fn subcommand_words<'a>(
     }
 }
 
-/// What the matches ask for.
+/// Returns what the matches ask for.
 fn matches_words<'a>(matches: &ArgMatches<'a>) -> Result<DraftCommand<'a>, ArgsFault>
     ensures words { IfOk result (λ words. AsksSo words (rows_of (found_of matches.now))
         (subcommand_rows_of matches.now)) }
@@ -150,7 +150,7 @@ fn matches_words<'a>(matches: &ArgMatches<'a>) -> Result<DraftCommand<'a>, ArgsF
     }
 }
 
-/// What the words of the command line ask for, of which the first is the program's own name. They are `Usage` only if `clap` finds a mistake in them, or they
+/// Returns what the words of the command line ask for, of which the first is the program's own name. They are `Usage` only if `clap` finds a mistake in them, or they
 /// ask for nothing.
 pub fn read_words<'a>(alloc: Global, words: &'a [&'a str]) -> Result<DraftCommand<'a>, ArgsFault>
     ensures words { IfOk result (LineAsksFor (texts words.now)) }

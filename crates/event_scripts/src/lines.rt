@@ -19,7 +19,7 @@ fn without_return(line: &[u8]) -> &[u8]
     }
 }
 
-/// The first line, and what follows it, unless nothing is left. A line is ended by LF, with an optional CR before it; the last one needs no
+/// Returns the first line, and what follows it, unless nothing is left. A line is ended by LF, with an optional CR before it; the last one needs no
 /// end.
 pub fn first_line(script: &[u8]) -> Option<(&[u8], &[u8])>
     ensures line { MatchOption result (script_lines script.now ≡ [])

@@ -4,14 +4,14 @@ ghost use Rattle.http_heads.specs.Head.{HeadOf};
 ghost use Rattle.http_heads.specs.Fields.{asks_to_close, has_coding, has_no_body, has_no_length, host_fits, is_closing, is_optional_space, lists_close, same_word, stripped, without_back, without_front};
 ghost use Rattle.http_heads.specs.Said.{said_by};
 
-/// True if two names or words are the same, in any case of ASCII letters.
+/// Returns true if two names or words are the same, in any case of ASCII letters.
 fn is_same_word(word: &[u8], other: &[u8]) -> bool
     ensures { result ≡ same_word word.now other.now }
 {
     word.eq_ignore_ascii_case(other)
 }
 
-/// True if a byte is a space or a tab.
+/// Returns true if a byte is a space or a tab.
 fn is_blank(byte: u8) -> bool
     ensures { result ≡ is_optional_space byte }
 {
@@ -53,7 +53,7 @@ fn strip(bytes: &[u8]) -> &[u8]
     strip_back(strip_front(bytes))
 }
 
-/// True if a list of words, separated by commas, has the word `close`.
+/// Returns true if a list of words, separated by commas, has the word `close`.
 fn has_close(value: &[u8]) -> bool
     ensures { result ≡ lists_close value.now }
 {
@@ -62,14 +62,14 @@ fn has_close(value: &[u8]) -> bool
         .any(|part| is_same_word(strip(part), b"close"))
 }
 
-/// True if a field is no Content-Length, or says that there is no body.
+/// Returns true if a field is no Content-Length, or says that there is no body.
 fn is_bodiless(name: &[u8], value: &[u8]) -> bool
     ensures { result ≡ has_no_body (name.now, value.now) }
 {
     !is_same_word(name, b"content-length") || strip(value) == b"0".as_slice()
 }
 
-/// True if a field is a Connection field that lists `close`.
+/// Returns true if a field is a Connection field that lists `close`.
 fn is_closing(name: &[u8], value: &[u8]) -> bool
     ensures { result ≡ is_closing (name.now, value.now) }
 {
@@ -123,7 +123,7 @@ impl Said {
         }
     }
 
-    /// True if the Host fields are as many as the version wants.
+    /// Returns true if the Host fields are as many as the version wants.
     pub(crate) fn has_host(&self, minor: u8) -> bool
         ensures { (head : HeadOf) → head.minor ≡ minor → self.now ≡ said_by head.fields
             → result ≡ host_fits head }
@@ -131,21 +131,21 @@ impl Said {
         self.hosts == 1 || (minor == 0 && self.hosts == 0)
     }
 
-    /// True if a coding announces a body.
+    /// Returns true if a coding announces a body.
     pub(crate) fn is_coded(&self) -> bool
         ensures { (head : HeadOf) → self.now ≡ said_by head.fields → result ≡ has_coding head }
     {
         self.is_coded
     }
 
-    /// True if no Content-Length field announces a body.
+    /// Returns true if no Content-Length field announces a body.
     pub(crate) fn is_without_length(&self) -> bool
         ensures { (head : HeadOf) → self.now ≡ said_by head.fields → result ≡ has_no_length head }
     {
         self.is_bodiless
     }
 
-    /// True if the client wants no further reply.
+    /// Returns true if the client wants no further reply.
     pub(crate) fn is_last(&self, minor: u8) -> bool
         ensures { (head : HeadOf) → head.minor ≡ minor → self.now ≡ said_by head.fields
             → result ≡ asks_to_close head }

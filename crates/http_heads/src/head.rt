@@ -97,7 +97,7 @@ pub(crate) fn first_head(alloc: Global, bytes: &[u8]) -> Result<Option<(Head, us
     Ok(Some((head, spans.len)))
 }
 
-/// All heads at the front of the bytes, and how many bytes they have.
+/// Returns all heads at the front of the bytes, and how many bytes they have.
 pub(crate) fn cut_heads(alloc: Global, bytes: &[u8]) -> Result<(Vec<Head>, usize), AllocError>
     ensures within { IfOk result (λ cut. cut.1 ≤ length bytes.now) }
     ensures heads { IfOk result
@@ -113,7 +113,7 @@ pub(crate) fn cut_heads(alloc: Global, bytes: &[u8]) -> Result<(Vec<Head>, usize
     Ok((heads, at))
 }
 
-/// True if nothing can follow a rest that puts a head at its front: it has as many bytes as a head may have, or httparse refuses it.
+/// Returns true if nothing can follow a rest that puts a head at its front: it has as many bytes as a head may have, or httparse refuses it.
 pub(crate) fn is_refused(rest: &[u8]) -> bool
     requires { IsRest rest.now }
     ensures { TellsHopeless rest.now result }

@@ -85,7 +85,7 @@ fn cut_checked(alloc: Global, bytes: &[u8]) -> Result<(Cut, usize), AllocError>
 }
 
 impl Splitter {
-    /// Before the first byte of a stream.
+    /// Returns a splitter before the first byte of a stream.
     pub fn new(alloc: Global) -> Splitter
         ensures { result ≡ [] }
     {
@@ -143,7 +143,7 @@ impl Splitter {
         }
     }
 
-    /// True if the rest can begin no head any more, whatever follows. The rest is read for it, once at each call. A target that is no UTF-8 is
+    /// Returns true if the rest can begin no head any more, whatever follows. The rest is read for it, once at each call. A target that is no UTF-8 is
     /// told at its end.
     pub fn is_hopeless(&self) -> bool
         ensures { TellsHopeless self.now result }

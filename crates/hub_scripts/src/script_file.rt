@@ -9,7 +9,7 @@ use std::alloc::Global;
 /// The room for one read.
 const PIECE: usize = 8192;
 
-/// All bytes that a source has left, in at most [`MAX_READS`] reads.
+/// Returns all bytes that a source has left, in at most [`MAX_READS`] reads.
 pub fn read_script<R: Source>(alloc: Global, input: &mut R) -> Result<Vec<u8>, RunFault>
     requires { (R.source input.old).reads < 2 ^ 63 }
     ensures { IsScriptRead (R.source input.old) (R.source input.new) result }

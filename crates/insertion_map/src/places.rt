@@ -81,7 +81,7 @@ impl<K: Eq + Hash> KeyPlaces<K> {
         ordered_keys(alloc, &self.places)
     }
 
-    /// True if a key is among them.
+    /// Returns true if a key is among them.
     pub fn contains(&self, key: &K) -> bool
         ensures { result ≡ list_any (K.eq key.now) self.now.keys }
     {

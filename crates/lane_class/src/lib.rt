@@ -19,7 +19,7 @@ pub struct Classes {
     pub lf: u64,
 }
 
-/// The 64 bytes from `at` on, with zeros past the end.
+/// Returns the 64 bytes from `at` on, with zeros past the end.
 #[inline(always)]
 pub fn load(bytes: &[u8], at: usize) -> u8x64
     ensures { result ≡ block_from bytes.now at }
@@ -34,7 +34,7 @@ pub fn load(bytes: &[u8], at: usize) -> u8x64
     u8x64::from_slice(rest)
 }
 
-/// The last block, which is short.
+/// Returns the last block, which is short.
 #[inline(never)]
 fn load_short(rest: &[u8]) -> u8x64
     requires { length rest.now < 64 }

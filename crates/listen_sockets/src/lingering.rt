@@ -74,7 +74,7 @@ impl Lingering {
         }
     }
 
-    /// Where one more is held: if none is, or else where the one is whose time is over first.
+    /// Returns where one more is held: if none is, or else where the one is whose time is over first.
     fn next_at(&self) -> usize
         ensures { 0 < length self.now.held.items → IsNextPlace self.now.held.items result }
     {
@@ -87,14 +87,14 @@ impl Lingering {
         at
     }
 
-    /// True if at some place none is held.
+    /// Returns true if at some place none is held.
     fn has_free(&self) -> bool
         ensures { result ≡ list_any is_none self.now.held.items }
     {
         self.held.iter().any(|held| held.is_none())
     }
 
-    /// If there is no room for one more, closes those whose peers have closed too.
+    /// Closes those whose peers have closed too, if there is no room for one more.
     fn make_room(&mut self, room: &mut [u8])
         ensures len { length room.new ≡ length room.old }
         ensures held { MakesRoom self.old.held.items self.new.held.items }

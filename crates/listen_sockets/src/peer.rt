@@ -74,7 +74,7 @@ impl Peer {
         poll.registry().deregister(&mut self.stream).is_ok()
     }
 
-    /// What the system says of it now.
+    /// Notes what the system says of it now.
     pub fn mark(&mut self, event: &Event)
         ensures { self.new ≡ after_event event.now self.old }
     {
@@ -86,7 +86,7 @@ impl Peer {
         self.lost |= fails;
     }
 
-    /// The next write is tried, whatever the system said: it reports room only when a third of what it keeps for a peer is free, so that a peer
+    /// Makes the next write be tried, whatever the system said: it reports room only when a third of what it keeps for a peer is free, so that a peer
     /// that takes bytes slowly would seem to stand still.
     pub fn try_write(&mut self)
         ensures { self.new ≡ before_try self.old }
@@ -95,7 +95,7 @@ impl Peer {
         self.writable = true;
     }
 
-    /// No more is read of its stream.
+    /// Ends its stream: no more of it is read.
     pub fn end(&mut self, now: u64)
         ensures { self.new ≡ after_end now self.old }
     {

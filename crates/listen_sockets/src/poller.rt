@@ -56,7 +56,7 @@ pub struct Poller {
 }
 
 impl Poller {
-    /// Over a listener. A connection may wait from the start.
+    /// Returns a poller over a listener. A connection may wait from the start.
     pub fn new<R: Net + Clock + AllocGlobal>(
         rt: &R,
         mut listener: ListeningSocket,

@@ -20,7 +20,7 @@ const WASTE_BYTES: usize = 16_384;
 /// their length.
 const PIECE_BYTES: usize = 2_048;
 
-/// What is kept of a place from now on: nothing became of it yet.
+/// Clears what is kept of a place: nothing became of it yet.
 fn clear_slot(slots: &mut [Slot], place: u32)
     ensures len { length slots.new ≡ length slots.old }
     ensures cleared { slots.new ≡ slice_set slots.old place free_slot }
@@ -169,7 +169,7 @@ impl Server {
         self.hub.drop_conn(Conn(place))
     }
 
-    /// A second later: tends one of the sockets that are held open.
+    /// Tends one of the sockets that are held open, once a second.
     pub fn tend_lingering_at(&mut self, at: u32)
         ensures hub { self.new.hub ≡ self.old.hub }
         ensures slots { self.new.slots.items ≡ self.old.slots.items }
@@ -197,7 +197,7 @@ impl Server {
         }
     }
 
-    /// True if output of the connection at a place waits for its socket.
+    /// Returns true if output of the connection at a place waits for its socket.
     pub fn has_waiting(&self, place: u32) -> bool
         ensures { (h : HubOf) → Models self.now.hub h → result ≡ has_waiting (conn_at h place) }
     {
@@ -207,7 +207,7 @@ impl Server {
         }
     }
 
-    /// True if the rest of the connection at a place can begin no head any more.
+    /// Returns true if the rest of the connection at a place can begin no head any more.
     fn is_hopeless(&self, place: u32) -> bool
         ensures { (h : HubOf) → Models self.now.hub h
             → TellsHopelessOf (conn_at h place) result }

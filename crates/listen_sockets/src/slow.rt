@@ -126,7 +126,7 @@ impl Times {
         }
     }
 
-    /// Bytes were read: a head begins with them, unless one began before. A peer that sends a byte now and then does not get on by that.
+    /// Notes that bytes were read: a head begins with them, unless one began before. A peer that sends a byte now and then does not get on by that.
     pub fn read(&mut self, now: u64)
         ensures { self.new ≡ times_after_read self.old now }
     {
@@ -151,7 +151,7 @@ impl Times {
         }
     }
 
-    /// A turn did something: a head was whole.
+    /// Notes that a turn did something: a head was whole.
     pub fn turned(&mut self, now: u64)
         ensures { self.new ≡ times_after_turn now self.old }
     {

@@ -67,7 +67,7 @@ impl Wire {
         }
     }
 
-    /// True if the system said that the connection is lost.
+    /// Returns true if the system said that the connection is lost.
     pub(crate) fn is_lost(&self) -> bool
         ensures { result ≡ is_lost_peer self.now.peer }
     {
@@ -142,7 +142,7 @@ impl Wire {
         }
     }
 
-    /// No more is read of its stream.
+    /// Ends its stream: no more of it is read.
     pub(crate) fn end(&mut self, now: u64)
         ensures peer { self.new ≡ with_peer (after_end now) self.old }
         ensures socket { socket_of self.new.peer ≡ socket_of self.old.peer }
@@ -266,14 +266,14 @@ impl Sockets {
         None
     }
 
-    /// True if there is a place with no socket.
+    /// Returns true if there is a place with no socket.
     pub fn has_free(&self) -> bool
         ensures { result ≡ list_any has_no_peer self.now.wires.items }
     {
         self.wires.iter().any(|wire| wire.peer.is_none())
     }
 
-    /// True if no place has a socket.
+    /// Returns true if no place has a socket.
     pub fn are_free(&self) -> bool
         ensures { result ≡ list_all has_no_peer self.now.wires.items }
     {

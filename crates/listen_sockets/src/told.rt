@@ -40,7 +40,7 @@ impl Sockets {
         true
     }
 
-    /// True if the system said that the connection at a place is lost.
+    /// Returns true if the system said that the connection at a place is lost.
     pub fn is_lost(&self, place: u32) -> bool
         ensures { result ≡ is_lost_at self.now.wires.items place }
     {

@@ -26,7 +26,7 @@ pub enum ExactOperator {
     Mul,
 }
 
-/// A sum, difference or product; if it does not fit, any number.
+/// Returns a sum, difference or product; if it does not fit, any number.
 #[inline(always)]
 fn exact(operator: ExactOperator, left: i64, right: i64) -> i64
     ensures { FitsSigned w64 (exact_of operator left right)
@@ -39,7 +39,7 @@ fn exact(operator: ExactOperator, left: i64, right: i64) -> i64
     }
 }
 
-/// True if the size of each number is below the limit.
+/// Returns true if the size of each number is below the limit.
 #[inline(always)]
 fn each_below(operand: Operand<'_>, rows: usize, limit: u64) -> bool
     requires { IsLong rows operand }
@@ -76,7 +76,7 @@ fn compute_each(operator: ExactOperator, left: Operand<'_>, right: Operand<'_>, 
     }
 }
 
-/// `compute_each`, with a loop of its own for each shape of the sides.
+/// Does what `compute_each` does, with a loop of its own for each shape of the sides.
 #[inline(always)]
 fn compute_shaped(operator: ExactOperator, left: Operand<'_>, right: Operand<'_>, out: &mut [i64])
     requires left { IsLong (length out.old) left }
@@ -102,7 +102,7 @@ fn compute_shaped(operator: ExactOperator, left: Operand<'_>, right: Operand<'_>
     }
 }
 
-/// Which rows have a null on a side.
+/// Marks the rows that have a null on a side.
 #[inline(always)]
 fn either_null_each(left: Operand<'_>, right: Operand<'_>, out: &mut [bool])
     requires left { IsLong (length out.old) left }
@@ -115,7 +115,7 @@ fn either_null_each(left: Operand<'_>, right: Operand<'_>, out: &mut [bool])
     }
 }
 
-/// `either_null_each`, with a loop of its own for each shape of the sides.
+/// Does what `either_null_each` does, with a loop of its own for each shape of the sides.
 fn either_null_shaped(left: Operand<'_>, right: Operand<'_>, out: &mut [bool])
     requires left { IsLong (length out.old) left }
     requires right { IsLong (length out.old) right }
@@ -149,7 +149,7 @@ fn exact_each(operator: ExactOperator, left: Operand<'_>, right: Operand<'_>, ou
     }
 }
 
-/// True if the numbers of each row are so small that their sum, difference or product fits.
+/// Returns true if the numbers of each row are so small that their sum, difference or product fits.
 fn are_small(operator: ExactOperator, left: Operand<'_>, right: Operand<'_>, rows: usize) -> bool
     requires left { IsLong rows left }
     requires right { IsLong rows right }

@@ -15,7 +15,7 @@ use row_eval::{Truth, truth_of};
 use std::alloc::Global;
 use typed_trees::ComparisonOperator;
 
-/// True if a comparison holds between two numbers, each with a mark that it is null.
+/// Returns true if a comparison holds between two numbers, each with a mark that it is null.
 #[inline(always)]
 fn holds(
     operator: ComparisonOperator,
@@ -62,7 +62,7 @@ fn compare_each(
     }
 }
 
-/// `compare_each`, with a loop of its own for each shape of the sides.
+/// Does what `compare_each` does, with a loop of its own for each shape of the sides.
 #[inline(always)]
 fn compare_shaped(
     operator: ComparisonOperator,
@@ -94,7 +94,7 @@ fn compare_shaped(
     }
 }
 
-/// `compare_shaped`, with loops of its own for each operator.
+/// Does what `compare_shaped` does, with loops of its own for each operator.
 fn compare_by(
     operator: ComparisonOperator,
     left: Operand<'_>,

@@ -19,7 +19,7 @@ pub enum QuotientOperator {
     Mod,
 }
 
-/// A quotient or a remainder, or `None` if the divisor is zero, and if it may not fit.
+/// Returns a quotient or a remainder, or `None` if the divisor is zero, and if it may not fit.
 fn quotient(operator: QuotientOperator, left: i64, right: i64) -> Option<i64>
     ensures { IfSome result (λ n. operation (operator_of_quotient operator) left right ≡ Some n) }
 {
@@ -29,7 +29,7 @@ fn quotient(operator: QuotientOperator, left: i64, right: i64) -> Option<i64>
     }
 }
 
-/// The same, of a row that is asked for; of another any number.
+/// Returns the same, of a row that is asked for; of another any number.
 #[inline(always)]
 fn quotient_where(is_asked: bool, operator: QuotientOperator, left: i64, right: i64) -> Option<i64>
     ensures { IsTrue is_asked

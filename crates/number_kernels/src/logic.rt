@@ -8,7 +8,7 @@ use crate::fallback::Fallback;
 use row_eval::{Truth, greatest, least, opposite, truth_of};
 use std::alloc::Global;
 
-/// `and`, in place of the left sides.
+/// Joins truths by `and`, in place of the left sides.
 fn least_each(left: &mut [Truth], right: &[Truth])
     requires { length left.old ≡ length right.now }
     ensures { (i : ℕ) → i < length left.new → truth_lane left.new i
@@ -19,7 +19,7 @@ fn least_each(left: &mut [Truth], right: &[Truth])
     }
 }
 
-/// `or`, in place of the left sides.
+/// Joins truths by `or`, in place of the left sides.
 fn greatest_each(left: &mut [Truth], right: &[Truth])
     requires { length left.old ≡ length right.now }
     ensures { (i : ℕ) → i < length left.new → truth_lane left.new i
@@ -30,7 +30,7 @@ fn greatest_each(left: &mut [Truth], right: &[Truth])
     }
 }
 
-/// `not`, in place.
+/// Turns truths by `not`, in place.
 fn opposite_each(truths: &mut [Truth])
     ensures { (i : ℕ) → i < length truths.new → truth_lane truths.new i
         ≡ opposite_of (truth_lane truths.old i) }
@@ -68,7 +68,7 @@ pub fn open_rows(
     Ok(asked)
 }
 
-/// `and`.
+/// Returns the `and` of truths, row by row.
 pub fn conjunction(mut left: Vec<Truth>, right: Vec<Truth>) -> Vec<Truth>
     requires { length left.items ≡ length right.items }
     ensures { HasTruths (length right.items)
@@ -78,7 +78,7 @@ pub fn conjunction(mut left: Vec<Truth>, right: Vec<Truth>) -> Vec<Truth>
     left
 }
 
-/// `or`.
+/// Returns the `or` of truths, row by row.
 pub fn disjunction(mut left: Vec<Truth>, right: Vec<Truth>) -> Vec<Truth>
     requires { length left.items ≡ length right.items }
     ensures { HasTruths (length right.items)
@@ -88,7 +88,7 @@ pub fn disjunction(mut left: Vec<Truth>, right: Vec<Truth>) -> Vec<Truth>
     left
 }
 
-/// `not`.
+/// Returns the `not` of truths, row by row.
 pub fn negation(mut truths: Vec<Truth>) -> Vec<Truth>
     ensures { HasTruths (length truths.items) (λ row. opposite_of (truth_lane truths.items row))
         result.items }
@@ -113,7 +113,7 @@ fn truth_at(null: bool, number: i64) -> Truth
     if null { Truth::Null } else { truth }
 }
 
-/// The truths that numbers stand for, row by row.
+/// Writes the truths that numbers stand for, row by row.
 fn truth_each(values: &[i64], nulls: &[bool], out: &mut [Truth])
     requires values { length values.now ≡ length out.old }
     requires nulls { length nulls.now ≡ length out.old }

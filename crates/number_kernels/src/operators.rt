@@ -30,7 +30,7 @@ pub fn join<'a>(
     }
 }
 
-/// Two vectors joined by an operator, on the wanted rows if what it makes of them fits 64 bits. No sum, difference or product is checked.
+/// Returns two vectors joined by an operator, on the wanted rows if what it makes of them fits 64 bits. No sum, difference or product is checked.
 pub fn join_fitting<'a>(
     alloc: Global,
     operator: ArithmeticOperator,

@@ -27,7 +27,7 @@ pub struct Exchange {
 }
 
 impl Exchange {
-    /// Before the first block. No block is read.
+    /// Begins an exchange. No block is read.
     pub fn begin(alloc: Global, catalog: &Catalog, head: Head) -> Result<Exchange, AllocError>
         requires { length head.target.items ≤ 8192 }
         ensures { IfOk result (Begins catalog.now (head_view head)) }

@@ -53,7 +53,7 @@ impl KeyLookup {
         self.select.as_deref()
     }
 
-    /// The row, or that none has the key.
+    /// Returns the row, or that none has the key.
     pub(crate) fn answer(self, alloc: Global, catalog: &Catalog) -> Result<Response, AllocError>
         requires { MayFind catalog.now self }
         ensures responds { (asked : RowsRequestOf) → IsKeyLookup catalog.now asked self

@@ -20,7 +20,7 @@ pub struct LazyExchange {
 }
 
 impl LazyExchange {
-    /// Before the first block, for a head that was checked before. No block is read.
+    /// Begins an exchange for a head that was checked before. No block is read.
     #[tactic(auto, using(crate::proofs::LazyLemmas::begins_lazily))]
     pub fn begin_checked(
         alloc: Global,

@@ -16,7 +16,7 @@ pub(crate) enum Media {
 }
 
 impl Media {
-    /// That of rows in a format.
+    /// Returns the media type of rows in a format.
     pub(crate) fn of(format: Format) -> Media
         ensures { result ≡ media_of format }
     {

@@ -69,11 +69,11 @@ fn counted(sizes: RowSizes, run: &Run, format: Format) -> RowSizes
     sizes
 }
 
-/// A run is let go, here alone: each function that may let one go is dear to prove.
+/// Drops a run, here alone: each function that may drop one is dear to prove.
 fn let_go(_run: Box<Run>) {}
 
 impl QueryRun {
-    /// Before the first block. No block is read.
+    /// Begins the run of a query. No block is read.
     pub(crate) fn start(
         alloc: Global,
         catalog: &Catalog,

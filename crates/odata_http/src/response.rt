@@ -148,7 +148,7 @@ pub(crate) fn row_response(
     Ok(Response::ok(Media::of(format), body))
 }
 
-/// The body, which is left out if the method is HEAD (RFC 9110, section 9.3.2).
+/// Returns the body, which is left out if the method is HEAD (RFC 9110, section 9.3.2).
 fn body_for(alloc: Global, method: Option<Method>, body: BodyCursor) -> BodyCursor
     ensures { result.bytes ≡ body_for method body.bytes }
 {

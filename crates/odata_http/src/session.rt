@@ -49,7 +49,7 @@ impl Model for Session {
 }
 
 impl Session {
-    /// Before the first byte of a stream.
+    /// Returns a session before the first byte of a stream.
     pub fn new(alloc: Global) -> Session
         ensures { result ≡ new_session }
     {
@@ -122,7 +122,7 @@ impl Session {
         self.output.take(buf)
     }
 
-    /// True if a reply closed: that to a head, or that to a rest at the end.
+    /// Returns true if a reply closed: that to a head, or that to a rest at the end.
     pub fn closed(&self) -> bool
         ensures { result ≡ self.now.closed }
     {

@@ -35,7 +35,7 @@ pub(crate) enum Work {
     Failed,
 }
 
-/// Work is let go, here alone: each function that may let some go is dear to prove.
+/// Drops work, here alone: each function that may drop some is dear to prove.
 pub(crate) fn let_go(_work: Work) {}
 
 impl Work {

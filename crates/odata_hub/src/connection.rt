@@ -44,14 +44,14 @@ impl Connection {
         }
     }
 
-    /// Another exchange is in flight, or none. Here alone the one before it is let go, since each function that may let one go is dear to prove.
+    /// Puts another exchange in flight, or none. Here alone the one before it is dropped, since each function that may drop one is dear to prove.
     fn set_flight(&mut self, flight: Option<InFlight>)
         ensures { self.new ≡ record self.old { flight = flight } }
     {
         self.flight = flight;
     }
 
-    /// Memory ran out: of what the connection held only the output is kept.
+    /// Fails the connection, for which memory ran out: of what it held only the output is kept.
     fn fail(&mut self, alloc: Global)
         ensures flight { self.new.flight ≡ None }
         ensures failed { IsFailed (conn_of self.old None) (conn_of self.new None) }
@@ -200,7 +200,7 @@ impl Connection {
         self.output.take(out)
     }
 
-    /// First bytes of the output: one at least, if any waits.
+    /// Returns first bytes of the output: one at least, if any waits.
     pub(crate) fn waiting(&self) -> &[u8]
         ensures { IsFront result.now self.now.output }
     {
@@ -214,7 +214,7 @@ impl Connection {
         self.output.took(count);
     }
 
-    /// True if a closing head was cut off, and all replies were taken: if memory ran out, one of them was never made.
+    /// Returns true if a closing head was cut off, and all replies were taken: if memory ran out, one of them was never made.
     pub(crate) fn closed(&self) -> bool
         ensures { (c : ConnOf) → ConnStandsFor self.now c → result ≡ is_over c }
     {
@@ -225,7 +225,7 @@ impl Connection {
             && self.output.is_empty()
     }
 
-    /// True if what is left of the stream can begin no head any more.
+    /// Returns true if what is left of the stream can begin no head any more.
     pub(crate) fn is_hopeless(&self) -> bool
         ensures { (c : ConnOf) → ConnStandsFor self.now c → TellsHopeless c.rest result }
     {

@@ -75,7 +75,7 @@ impl Hub {
         end_at(&mut self.places, conn.0)
     }
 
-    /// One turn of a connection: a run is handed one block at most.
+    /// Gives a connection one turn: a run is handed one block at most.
     pub fn turn(&mut self, conn: Conn) -> Result<Turned, HubFault>
         ensures { IsHubStep self.old (On conn.0 Turn) (call_answer Went result) self.new }
     {
@@ -93,7 +93,7 @@ impl Hub {
         take_at(&mut self.places, conn.0, out)
     }
 
-    /// First bytes of a connection's output: one at least, if any waits.
+    /// Returns first bytes of a connection's output: one at least, if any waits.
     pub fn waiting(&self, conn: Conn) -> Result<&[u8], HubFault>
         ensures { (h : HubOf) → Models self.now h → LendsAt (conn_at h conn.0) result }
     {
@@ -115,7 +115,7 @@ impl Hub {
         free_at(&mut self.places, conn.0)
     }
 
-    /// Other tables, for the heads whose last byte is still to come.
+    /// Exchanges the tables, for the heads whose last byte is still to come.
     pub fn reload(&mut self, catalog: Rc<Catalog>)
         ensures { IsHubStep self.old (Reload catalog.value) Done self.new }
     {

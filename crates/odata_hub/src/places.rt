@@ -100,7 +100,7 @@ pub(crate) fn take_at(
     }
 }
 
-/// First bytes of the output of the connection at a place.
+/// Returns first bytes of the output of the connection at a place.
 pub(crate) fn waiting_at(places: &[Option<Connection>], place: u32) -> Result<&[u8], HubFault>
     ensures { (catalog : CatalogOf) (h : HubOf) → AreHub catalog places.now h
         → LendsAt (conn_at h place) result }

@@ -13,7 +13,7 @@ use jiff_core::civil::Date;
 /// How many bytes a date has.
 pub const DATE_LEN: usize = 10;
 
-/// True if the bytes are four digits, `-`, two digits, `-`, two digits.
+/// Returns true if the bytes are four digits, `-`, two digits, `-`, two digits.
 pub fn is_date_form(text: &[u8]) -> bool
     ensures { result ≡ is_date_form text.now }
 {
@@ -25,7 +25,7 @@ pub fn is_date_form(text: &[u8]) -> bool
         && are_digits(&text[8..DATE_LEN])
 }
 
-/// True if each byte is a digit.
+/// Returns true if each byte is a digit.
 pub fn are_digits(bytes: &[u8]) -> bool
     ensures { result ≡ list_all is_ascii_digit bytes.now }
 {

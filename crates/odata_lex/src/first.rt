@@ -159,7 +159,7 @@ fn sign_token(b: u8) -> Option<(TokenKind, usize)>
     Some((kind, 1))
 }
 
-/// The kind and the length of the token that the text begins with.
+/// Returns the kind and the length of the token that the text begins with.
 pub fn first_token(text: &[u8]) -> Option<(TokenKind, usize)>
     ensures { result ≡ first_token text.now }
 {

@@ -62,7 +62,7 @@ impl<'a> Drain<'a> {
         }
     }
 
-    /// True if the service is to end: no connection is left, or the seconds are over.
+    /// Returns true if the service is to end: no connection is left, or the seconds are over.
     pub fn is_over(&self, server: &Server, now: u64) -> bool {
         match self.since {
             Some(since) => server.sockets.are_free() || now.saturating_sub(since) > DRAIN_SECONDS,

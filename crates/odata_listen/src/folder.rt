@@ -209,7 +209,7 @@ impl<'a> Folder<'a> {
         self.begin(rt, hub, log);
     }
 
-    /// True if a load is under way.
+    /// Returns true if a load is under way.
     pub fn is_loading(&self) -> bool {
         self.load.is_some()
     }

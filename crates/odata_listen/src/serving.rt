@@ -119,7 +119,7 @@ fn tend_lingering(server: &mut Server)
     }
 }
 
-/// What is done when a second began: slow peers are ended, and the folder is looked at. The next write to each socket is tried.
+/// Does what is due once a second: ends slow peers, and looks at the folder. The next write to each socket is tried.
 #[tactic(auto, using(crate::proofs::ServingLemmas::on_none))]
 fn tend(
     rt: &HostRuntime,
@@ -158,7 +158,7 @@ struct Course<'a> {
     busy: bool,
 }
 
-/// One tick: the events that there are, one round, a step of a load, what is done once a second, and new connections.
+/// Does one tick: the events that there are, one round, a step of a load, what is done once a second, and new connections.
 fn tick(
     rt: &HostRuntime,
     poller: &mut Poller,

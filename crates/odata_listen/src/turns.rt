@@ -24,7 +24,7 @@ pub struct Circle {
 }
 
 impl Circle {
-    /// Before the first turn.
+    /// Returns a circle before the first turn.
     pub fn new(places: u32, heavy: bool) -> Circle {
         Circle {
             places,
@@ -193,7 +193,7 @@ fn has_more(circles: &Circles) -> bool
     circles.light.busy || circles.heavy.busy
 }
 
-/// One round: those who ask for little have their turns, and once all had theirs, the others, until the time of the round is over. Returns whether there is more
+/// Gives one round of turns: those who ask for little have their turns, and once all had theirs, the others, until the time of the round is over. Returns whether there is more
 /// to do at once.
 pub fn run_round(
     watch: &mut Stopwatch<'_>,

@@ -102,7 +102,7 @@ pub fn hand_over(
     }
 }
 
-/// True if a reload comes to the same end as long as the folder stays: not if a device failed, or memory ran out.
+/// Returns true if a reload comes to the same end as long as the folder stays: not if a device failed, or memory ran out.
 pub fn is_final(end: &Result<(), ProgramFault>) -> bool
     ensures { result ≡ is_final end.now }
 {

@@ -40,7 +40,7 @@ impl Item for String {
     }
 }
 
-/// `as` and a name.
+/// Reads `as` and a name.
 fn alias(alloc: Global, tokens: &mut Cursor<'_>) -> Result<String, PhraseFault>
     ensures found { Finds string_bytes ReadsAlias tokens.old result tokens.new }
     ensures each { ParsesAll string_bytes ReadsAlias tokens.old result tokens.new }
@@ -95,7 +95,7 @@ impl Item for AggregateItem {
     }
 }
 
-/// `aggregate` and its items.
+/// Reads `aggregate` and its items.
 fn aggregate(alloc: Global, tokens: &mut Cursor<'_>) -> Result<Vec<AggregateItem>, PhraseFault>
     ensures found { Finds aggregation_view ReadsAggregate tokens.old result tokens.new }
     ensures each { ParsesAll aggregation_view ReadsAggregate tokens.old result tokens.new }

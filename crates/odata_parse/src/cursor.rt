@@ -125,7 +125,7 @@ impl<'a> Cursor<'a> {
         self.take_keyword(keyword).ok_or(PhraseFault::Syntax)
     }
 
-    /// Nothing may be left.
+    /// Checks that no token is left.
     pub(crate) fn end(&self) -> Result<(), PhraseFault>
         ensures ok { OnOk result (self.now ≡ []) }
         ensures err { OnErr result (self.now ≢ []) }

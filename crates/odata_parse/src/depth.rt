@@ -31,7 +31,7 @@ fn open_behind(before: usize, kind: TokenKind) -> usize
     }
 }
 
-/// True if more `(` than [`MAX_OPEN`] are open at some place.
+/// Returns true if more `(` than [`MAX_OPEN`] are open at some place.
 fn opens_too_many(source: &str, tokens: &[Token]) -> bool
     requires { AreTokens source.now tokens.now }
     ensures { IsTrue result ↔ OpensTooMany (token_views source.now tokens.now) }
@@ -47,7 +47,7 @@ fn opens_too_many(source: &str, tokens: &[Token]) -> bool
     false
 }
 
-/// True if a token is `-` or `not`.
+/// Returns true if a token is `-` or `not`.
 fn is_operator(token: Lexeme<'_>) -> bool
     ensures yes { IsTrue result → IsPrefixToken (lexeme_view token.entry) }
     ensures no { (o : UnaryOperator) → IsUnaryOperator o (lexeme_view token.entry) → IsTrue result }
@@ -55,7 +55,7 @@ fn is_operator(token: Lexeme<'_>) -> bool
     token.kind == TokenKind::Minus || token.kind == TokenKind::Word && spells(token.text, "not")
 }
 
-/// True if more than [`MAX_OPERATORS`] tokens `-` or `not` follow each other.
+/// Returns true if more than [`MAX_OPERATORS`] tokens `-` or `not` follow each other.
 fn repeats_operators(source: &str, tokens: &[Token]) -> bool
     requires { AreTokens source.now tokens.now }
     ensures { IsTrue result ↔ RepeatsOperators (token_views source.now tokens.now) }
@@ -75,7 +75,7 @@ fn repeats_operators(source: &str, tokens: &[Token]) -> bool
     false
 }
 
-/// True if the tokens nest deeper than this service takes.
+/// Returns true if the tokens nest deeper than this service takes.
 pub(crate) fn is_too_deep(source: &str, tokens: &[Token]) -> bool
     requires { AreTokens source.now tokens.now }
     ensures { IsTrue result ↔ IsTooDeep (token_views source.now tokens.now) }
@@ -83,7 +83,7 @@ pub(crate) fn is_too_deep(source: &str, tokens: &[Token]) -> bool
     opens_too_many(source, tokens) || repeats_operators(source, tokens)
 }
 
-/// True if there are as many tokens `/` as the limit, or more.
+/// Returns true if there are as many tokens `/` as the limit, or more.
 pub(crate) fn has_slashes(source: &str, tokens: &[Token], limit: u32) -> bool
     requires { AreTokens source.now tokens.now }
     ensures { IsTrue result ↔ (limit ≤ slashes (token_views source.now tokens.now)) }

@@ -96,7 +96,7 @@ pub(crate) fn phrase(
     Ok(left)
 }
 
-/// `-` and `not`, and their operand.
+/// Reads `-` and `not`, and their operand.
 #[cycle(expression)]
 fn signed(alloc: Global, tokens: &mut Cursor<'_>) -> Result<Expr, PhraseFault>
     ensures found { FindsExpr 2 tokens.old result tokens.new }
@@ -110,7 +110,7 @@ fn signed(alloc: Global, tokens: &mut Cursor<'_>) -> Result<Expr, PhraseFault>
     Ok(Expr::Unary(operator, Box::new(alloc, operand)?))
 }
 
-/// A primary, and the list that it may be in.
+/// Reads a primary, and the list that it may be in.
 #[cycle(expression)]
 fn member(alloc: Global, tokens: &mut Cursor<'_>) -> Result<Expr, PhraseFault>
     ensures found { FindsExpr 1 tokens.old result tokens.new }

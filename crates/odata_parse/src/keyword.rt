@@ -16,7 +16,7 @@ use crate::tree::{
 };
 use typed_trees::{ArithmeticOperator, ComparisonOperator};
 
-/// True if a text is a keyword in any ASCII case.
+/// Returns true if a text is a keyword in any ASCII case.
 pub(crate) fn spells(text: &str, keyword: &str) -> bool
     ensures is { IsTrue result ↔ (lower text.now ≡ lower keyword.now) }
     ensures same { result ≡ same_text text.now keyword.now }
@@ -24,7 +24,7 @@ pub(crate) fn spells(text: &str, keyword: &str) -> bool
     text.eq_ignore_ascii_case(keyword)
 }
 
-/// `and` and `or`.
+/// Returns the operator that a text names: `and` or `or`.
 fn logic_operator(text: &str) -> Option<LogicOperator>
     ensures some { IfSome result (λ o. lower text.now ≡ logic_text o) }
     ensures none { IfNone result ((o : LogicOperator) → lower text.now ≢ logic_text o) }

@@ -60,7 +60,7 @@ fn content(alloc: Global, quoted: &str) -> Result<String, AllocError>
     Ok(content)
 }
 
-/// `true`, `false` and `null`.
+/// Returns the literal that a word is: `true`, `false` or `null`.
 pub(crate) fn word_literal(text: &str) -> Option<Literal>
     ensures some { IfSome result (λ v. IsWordLiteral text.now (literal_view v)) }
     ensures none { IfNone result ((v : LiteralOf) → ¬ (IsWordLiteral text.now v)) }

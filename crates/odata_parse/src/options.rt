@@ -106,7 +106,7 @@ impl Item for KeyPair {
     }
 }
 
-/// True if the second token is `=`.
+/// Returns true if the second token is `=`.
 fn names_columns(source: &str, tokens: &[Token]) -> bool
     requires { AreTokens source.now tokens.now }
     ensures { IsTrue result ↔ HasEqualsSign (token_views source.now tokens.now) }

@@ -37,7 +37,7 @@ fn known_places(
     Ok(places)
 }
 
-/// True if a number is among others.
+/// Returns true if a number is among others.
 fn is_among(places: &[usize], place: usize) -> bool
     ensures { result ≡ list_any (λ p. nat_eq p place) places.now }
 {

@@ -85,7 +85,7 @@ fn computed_of(
     }
 }
 
-/// True if an earlier item has that alias.
+/// Returns true if an earlier item has that alias.
 fn is_alias(earlier: &[Item<'_>], alias: &str) -> bool
     ensures { result ≡ has_alias (map item_view earlier.now) alias.now }
 {

@@ -13,7 +13,7 @@ use odata_types::{InputColumn, TypeFault, typed_expr, typed_filter};
 use std::alloc::Global;
 use typed_trees::TruthExpr;
 
-/// The filter if there is one.
+/// Returns the filter, if there is one.
 pub(crate) fn optional_filter(
     alloc: Global,
     columns: &[InputColumn<'_>],

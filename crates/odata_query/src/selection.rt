@@ -12,7 +12,7 @@ use odata_parse::tree::SelectItem;
 use odata_types::{InputColumn, TypeFault};
 use std::alloc::{AllocError, Global};
 
-/// True if a column has that name.
+/// Returns true if a column has that name.
 pub(crate) fn has_name(columns: &[InputColumn<'_>], name: &str) -> bool
     ensures { result ≡ has_name_of (inputs_view columns.now) name.now }
 {
@@ -24,7 +24,7 @@ pub(crate) fn has_name(columns: &[InputColumn<'_>], name: &str) -> bool
     false
 }
 
-/// True if what an item names is there.
+/// Returns true if what an item names is there.
 fn is_known(columns: &[InputColumn<'_>], item: &SelectItem) -> bool
     ensures { result ≡ is_known_of (inputs_view columns.now) (select_item_view item.now) }
 {
@@ -34,7 +34,7 @@ fn is_known(columns: &[InputColumn<'_>], item: &SelectItem) -> bool
     }
 }
 
-/// True if what each item names is there.
+/// Returns true if what each item names is there.
 fn are_known(columns: &[InputColumn<'_>], items: &[SelectItem]) -> bool
     ensures { result
         ≡ list_all (is_known_of (inputs_view columns.now)) (map select_item_view items.now) }
@@ -47,7 +47,7 @@ fn are_known(columns: &[InputColumn<'_>], items: &[SelectItem]) -> bool
     true
 }
 
-/// True if an item asks for the column of that name.
+/// Returns true if an item asks for the column of that name.
 fn selects(name: &str, item: &SelectItem) -> bool
     ensures { result ≡ selects_of name.now (select_item_view item.now) }
 {
@@ -57,7 +57,7 @@ fn selects(name: &str, item: &SelectItem) -> bool
     }
 }
 
-/// True if some item asks for the column of that name.
+/// Returns true if some item asks for the column of that name.
 fn is_selected(name: &str, items: &[SelectItem]) -> bool
     ensures { result ≡ list_any (selects_of name.now) (map select_item_view items.now) }
 {

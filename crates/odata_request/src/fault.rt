@@ -19,7 +19,7 @@ pub(crate) enum RequestFault {
 }
 
 impl RequestFault {
-    /// That of a fault with this code; running out of memory has none.
+    /// Returns the fault with this code; running out of memory has none.
     fn of(code: Option<Code>) -> RequestFault
         ensures { result ≡ fault_of code }
     {

@@ -67,7 +67,7 @@ fn read_number(text: &str) -> Result<u64, RequestFault>
     Ok(parse_number(text)?)
 }
 
-/// The key, if the path has one.
+/// Returns the key, if the path has one.
 pub(crate) fn optional_key(alloc: Global, text: Option<&str>) -> Result<Option<Key>, RequestFault>
     ensures { Yields (λ key. option_map key_view key)
         (ReadsOption (ReadsTree IsKey) (lent_view text.entry)) result }
@@ -92,7 +92,7 @@ pub(crate) fn apply_or_none(
     }
 }
 
-/// The filter, if the query has one.
+/// Returns the filter, if the query has one.
 pub(crate) fn optional_filter(
     alloc: Global,
     text: Option<&str>,

@@ -22,7 +22,7 @@ pub enum Resource<'p> {
     Key(usize, &'p str),
 }
 
-/// True if a table has that name.
+/// Returns true if a table has that name.
 fn is_called(table: &Table, name: &str) -> bool
     ensures { result ≡ bytes_eq table.now.schema.name name.now }
 {
@@ -50,7 +50,7 @@ fn table_number(catalog: &Catalog, name: &str) -> Result<usize, Code>
     }
 }
 
-/// True if a key begins in a segment.
+/// Returns true if a key begins in a segment.
 fn has_parenthesis(segment: &str) -> bool
     ensures { result ≡ has_parenthesis segment.now }
 {
@@ -99,14 +99,14 @@ fn segment_resource<'p>(catalog: &Catalog, segment: &'p str) -> Result<Resource<
     }
 }
 
-/// True if a segment is reserved: it begins with `$`.
+/// Returns true if a segment is reserved: it begins with `$`.
 fn is_reserved(segment: &str) -> bool
     ensures { result ≡ begins_with dollar_sign segment.now }
 {
     matches!(segment.as_bytes().first(), Some(b'$'))
 }
 
-/// True if a segment is reserved among these.
+/// Returns true if a segment is reserved among these.
 fn has_reserved(segments: &[String]) -> bool
     ensures { result ≡ list_any (begins_with dollar_sign) (map string_bytes segments.now) }
 {
@@ -124,7 +124,7 @@ fn other_resource<'p>(segments: &'p [String]) -> Result<Resource<'p>, Code>
     }
 }
 
-/// True if two segments are a table's name and `$count`.
+/// Returns true if two segments are a table's name and `$count`.
 fn is_count_path(segment: &str, behind: &str) -> bool
     ensures { result ≡ is_count_path segment.now behind.now }
 {

@@ -17,7 +17,7 @@ fn came_of(answer: Result<(), HubFault>) -> SlotState
     }
 }
 
-/// True if the connection at a place is over.
+/// Returns true if the connection at a place is over.
 fn is_over(hub: &Hub, place: u32) -> bool
     ensures { IsOverAt hub.now place result }
 {
@@ -42,7 +42,7 @@ fn read_in<P: Peers>(hub: &mut Hub, peers: &mut P, place: u32, room: &mut [u8]) 
     }
 }
 
-/// An idle connection is over, or reads on.
+/// Drops an idle connection that is over, or reads on.
 fn read_unless_over<P: Peers>(
     hub: &mut Hub,
     peers: &mut P,
@@ -60,7 +60,7 @@ fn read_unless_over<P: Peers>(
     }
 }
 
-/// One turn of a connection of which no output waits, and if it is idle a piece.
+/// Gives one turn to a connection of which no output waits, and reads a piece if it is idle.
 fn turn_or_read<P: Peers>(hub: &mut Hub, peers: &mut P, place: u32, room: &mut [u8]) -> SlotState
     requires { 0 < length room.old }
     ensures { MakesCalls AfterTake place hub.old hub.new

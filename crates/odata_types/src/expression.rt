@@ -18,7 +18,7 @@ use odata_parse::tree::Expr;
 use std::alloc::Global;
 use typed_trees::{TruthExpr, TypedExpr};
 
-/// An expression over columns with its types; or the first cause why it has none.
+/// Returns an expression over columns with its types; or the first cause why it has none.
 pub fn typed_expr(
     alloc: Global,
     columns: &[InputColumn<'_>],
@@ -54,7 +54,7 @@ pub fn typed_expr(
     }
 }
 
-/// A filter over columns with its types, which is a truth or null; or the first cause why it has none.
+/// Returns a filter over columns with its types, which is a truth or null; or the first cause why it has none.
 pub fn typed_filter(
     alloc: Global,
     columns: &[InputColumn<'_>],

@@ -27,7 +27,7 @@ fn list_type(first: ExprType, items: &[Literal]) -> ExprType
     common
 }
 
-/// True if a type fits where another is asked for.
+/// Returns true if a type fits where another is asked for.
 fn fits(wanted: ExprType, found: ExprType) -> bool
     ensures { result ≡ fits_in wanted found }
 {
@@ -42,7 +42,7 @@ fn fits(wanted: ExprType, found: ExprType) -> bool
     }
 }
 
-/// True if no value of a list is too large.
+/// Returns true if no value of a list is too large.
 fn are_small(items: &[Literal]) -> bool
     ensures { result ≡ list_all is_small_of (map literal_view items.now) }
 {
@@ -54,7 +54,7 @@ fn are_small(items: &[Literal]) -> bool
     true
 }
 
-/// True if each value of a list fits a type.
+/// Returns true if each value of a list fits a type.
 fn all_fit(wanted: ExprType, items: &[Literal]) -> bool
     ensures { result
         ≡ list_all (λ v. fits_in wanted (literal_type_of v)) (map literal_view items.now) }
@@ -140,7 +140,7 @@ fn truth_items(alloc: Global, items: &[Literal]) -> Result<Vec<Option<bool>>, Al
     Ok(values)
 }
 
-/// `in` at operands of a type.
+/// Returns `in` at operands of a type.
 fn list_as(
     alloc: Global,
     common: ExprType,
@@ -167,7 +167,7 @@ fn list_as(
     Ok(Box::new(alloc, expr)?)
 }
 
-/// `in` if no value of the list is too large.
+/// Returns `in`, if no value of the list is too large.
 fn list_in_type(
     alloc: Global,
     common: ExprType,

@@ -53,7 +53,7 @@ pub(crate) fn literal_type(literal: &Literal) -> ExprType
     }
 }
 
-/// True if a value is none that is too large.
+/// Returns true if a value is none that is too large.
 pub(crate) fn is_small(literal: &Literal) -> bool
     ensures { result ≡ is_small_of (literal_view literal.now) }
 {

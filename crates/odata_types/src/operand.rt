@@ -12,7 +12,7 @@ use typed_trees::{
     DateExpr, MILLIONTHS, NumberExpr, NumberKind, TextExpr, TruthExpr, TypedExpr, day_number,
 };
 
-/// The size, if a number may grow to it.
+/// Returns the size, if a number may grow to it.
 pub fn within(size: u128) -> Result<u128, TypeFault>
     ensures { result ≡ within size size }
 {
@@ -47,7 +47,7 @@ pub(crate) fn expr_type(expr: &TypedExpr) -> ExprType
     }
 }
 
-/// The expression if an integer is asked for, and its bound.
+/// Returns the expression if an integer is asked for, and its bound.
 pub(crate) fn integer_operand(
     alloc: Global,
     expr: TypedExpr,
@@ -64,7 +64,7 @@ pub(crate) fn integer_operand(
     }
 }
 
-/// The expression if a decimal is asked for, and its bound: an integer is scaled.
+/// Returns the expression if a decimal is asked for, and its bound: an integer is scaled.
 pub(crate) fn decimal_operand(
     alloc: Global,
     expr: TypedExpr,
@@ -85,7 +85,7 @@ pub(crate) fn decimal_operand(
     }
 }
 
-/// The expression if a text is asked for.
+/// Returns the expression if a text is asked for.
 pub(crate) fn text_operand(alloc: Global, expr: TypedExpr) -> Result<Box<TextExpr>, TypeFault>
     ensures { Gives boxed_text (as_text (typed_view expr)) result }
 {
@@ -99,7 +99,7 @@ pub(crate) fn text_operand(alloc: Global, expr: TypedExpr) -> Result<Box<TextExp
     }
 }
 
-/// The expression if a date is asked for.
+/// Returns the expression if a date is asked for.
 pub(crate) fn date_operand(expr: TypedExpr) -> Result<DateExpr, TypeFault>
     ensures { Gives date_view (as_date (typed_view expr)) result }
 {
@@ -124,7 +124,7 @@ fn number_of_date(date: DateExpr) -> NumberExpr
     }
 }
 
-/// The expression if a number of a type stands beside others: a date is numbered.
+/// Returns the expression if a number of a type stands beside others: a date is numbered.
 pub(crate) fn number_operand(
     alloc: Global,
     wanted: ExprType,
@@ -148,7 +148,7 @@ pub(crate) fn number_operand(
     }
 }
 
-/// The expression if a truth is asked for.
+/// Returns the expression if a truth is asked for.
 pub(crate) fn truth_operand(alloc: Global, expr: TypedExpr) -> Result<Box<TruthExpr>, TypeFault>
     ensures { Gives boxed_truth (as_truth (typed_view expr)) result }
 {

@@ -15,7 +15,7 @@ use odata_parse::tree::{BinaryOperator, LogicOperator, UnaryOperator};
 use std::alloc::Global;
 use typed_trees::{ArithmeticOperator, ComparisonOperator, NumberExpr, TruthExpr, TypedExpr};
 
-/// `-` and `not` before an operand.
+/// Returns `-` or `not` before an operand.
 pub(crate) fn unary_expr(
     alloc: Global,
     operator: UnaryOperator,
@@ -39,7 +39,7 @@ pub(crate) fn unary_expr(
     }
 }
 
-/// `and` and `or` between operands.
+/// Returns `and` or `or` between operands.
 fn logic_expr(
     alloc: Global,
     operator: LogicOperator,

@@ -22,7 +22,7 @@ pub(crate) fn decode(alloc: Global, text: &[u8]) -> Result<String, UrlFault>
     }
 }
 
-/// True if some `%` is not followed by two hexadecimal digits.
+/// Returns true if some `%` is not followed by two hexadecimal digits.
 fn has_broken_escape(text: &[u8]) -> bool
     ensures { result ≡ is_none (octets_of text.now) }
 {
@@ -36,7 +36,7 @@ fn has_broken_escape(text: &[u8]) -> bool
     false
 }
 
-/// True if two hexadecimal digits come first.
+/// Returns true if two hexadecimal digits come first.
 fn begins_with_digits(text: &[u8]) -> bool
     ensures { result ≡ begins_with_digits text.now }
 {

@@ -36,7 +36,7 @@ pub(crate) fn option_of_name(mut name: String) -> Result<Option<OptionName>, Url
     }
 }
 
-/// True if the byte comes first.
+/// Returns true if the byte comes first.
 fn begins_with(text: &str, byte: u8) -> bool
     ensures { result ≡ begins_with byte text.now }
 {
@@ -74,7 +74,7 @@ fn served_option(name: &str) -> Option<OptionName>
     }
 }
 
-/// True if a system option that is not served has that name, which is in lower case and without `$`.
+/// Returns true if a system option that is not served has that name, which is in lower case and without `$`.
 #[tactic(auto, unfolding(crate::specs::OptionName::is_unserved))]
 fn is_unserved(name: &str) -> bool
     ensures { result ≡ is_unserved name.now }

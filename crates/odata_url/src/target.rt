@@ -40,7 +40,7 @@ impl Target {
     }
 }
 
-/// The path and the query of a target, without the `/` that the path begins with.
+/// Returns the path and the query of a target, without the `/` that the path begins with.
 #[tactic(auto, unfolding(crate::specs::Target::origin_form))]
 fn behind_slash(bytes: &[u8]) -> Result<&[u8], UrlFault>
     ensures { MatchResult result (λ rest. origin_form bytes.now ≡ Ok (slash ∷ rest.now))
@@ -129,7 +129,7 @@ fn add_option(
     Ok(())
 }
 
-/// True if an option of that name is one of these.
+/// Returns true if an option of that name is one of these.
 fn is_among(options: &[(OptionName, String)], name: OptionName) -> bool
     ensures { result ≡ stands_among (map option_view options.now) name }
 {

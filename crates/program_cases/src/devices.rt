@@ -61,7 +61,7 @@ impl Write for Sips {
 /// The reads of the stream of two requests: the last reports its end.
 const READS: u32 = 79;
 
-/// The stream, of which a number of reads was given.
+/// Returns the stream, of which a number of reads was given.
 fn stream(most: u32) -> Drips {
     Drips { reads: 0, most }
 }
@@ -92,7 +92,7 @@ struct Reading {
     reads: u32,
 }
 
-/// True if it comes to that, with these replies written.
+/// Returns true if it comes to that, with these replies written.
 fn is_reading(alloc: Global, catalog: &Catalog, wanted: &Reading, replies: &str) -> bool {
     let mut input = stream(wanted.given);
     let mut out = Sips {
@@ -104,7 +104,7 @@ fn is_reading(alloc: Global, catalog: &Catalog, wanted: &Reading, replies: &str)
     end == wanted.end && input.reads == wanted.reads && out.taken.as_slice() == replies.as_bytes()
 }
 
-/// A read is interrupted after some others.
+/// Returns a device of which a read is interrupted after some others.
 fn with_interrupt(most: u32) -> Reading {
     Reading {
         given: most,
@@ -114,7 +114,7 @@ fn with_interrupt(most: u32) -> Reading {
     }
 }
 
-/// No more reads are allowed.
+/// Returns a device of which no more reads are allowed.
 fn with_limit(most: u32) -> Reading {
     Reading {
         given: READS,
@@ -149,7 +149,7 @@ fn reads(rt: HostRuntime) -> Result<(), Fail> {
     Ok(())
 }
 
-/// True if a run fails if its output takes only some bytes, with these bytes of the replies written; and ends well if that takes all.
+/// Returns true if a run fails if its output takes only some bytes, with these bytes of the replies written; and ends well if that takes all.
 fn is_writing(alloc: Global, catalog: &Catalog, most: usize, interrupts: bool) -> bool {
     let wanted = if most == COUNT_REPLIES.len() {
         Ok(())

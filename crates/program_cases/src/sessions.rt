@@ -41,7 +41,7 @@ fn output(session: &mut Session, alloc: Global) -> Result<Vec<u8>, AllocError> {
     Ok(taken)
 }
 
-/// True if a session answers a stream in two pieces so, closes if there is a stream, and takes no piece after the end.
+/// Returns true if a session answers a stream in two pieces so, closes if there is a stream, and takes no piece after the end.
 fn has_replies(
     alloc: Global,
     catalog: &Catalog,
@@ -74,7 +74,7 @@ fn sessions_answer_streams(rt: HostRuntime) -> Result<(), Fail> {
     Ok(())
 }
 
-/// True if this is the head of the stream, with its one field.
+/// Returns true if this is the head of the stream, with its one field.
 fn is_head(head: Option<&Head>) -> bool {
     match head {
         Some(head) => is_request(head) && head.fields.len() == 1 && is_host(head.fields.first()),
@@ -82,14 +82,14 @@ fn is_head(head: Option<&Head>) -> bool {
     }
 }
 
-/// True if the line of a head is that of the stream.
+/// Returns true if the line of a head is that of the stream.
 fn is_request(head: &Head) -> bool {
     head.method.as_slice() == b"GET".as_slice()
         && head.target.as_slice() == b"/x?a=b".as_slice()
         && head.minor == 0
 }
 
-/// True if this is the field of the stream.
+/// Returns true if this is the field of the stream.
 fn is_host(field: Option<&Field>) -> bool {
     match field {
         Some(field) => {

@@ -11,7 +11,7 @@ use query_plan::ColumnTest;
 use std::alloc::{AllocError, Global};
 use std::collections::VecDeque;
 
-/// True if a column of nulls admits a test.
+/// Returns true if a column of nulls admits a test.
 fn nulls_admit(test: &Test<'_>) -> bool
     ensures { result ≡ admits_test test.now.op null_range (value_view test.now.literal) }
 {
@@ -23,7 +23,7 @@ fn nulls_admit(test: &Test<'_>) -> bool
     }
 }
 
-/// True if the summary of a block admits a test. Each cell of a column that the table does not have is null.
+/// Returns true if the summary of a block admits a test. Each cell of a column that the table does not have is null.
 fn admits_one(summary: &Summary, asked: &ColumnTest) -> bool
     ensures { result ≡ range_admits summary.now (test_view asked.now) }
 {
@@ -34,7 +34,7 @@ fn admits_one(summary: &Summary, asked: &ColumnTest) -> bool
     }
 }
 
-/// True if the summary of a block admits all tests.
+/// Returns true if the summary of a block admits all tests.
 fn admits_all(summary: &Summary, tests: &[ColumnTest]) -> bool
     ensures { result ≡ ranges_admit (map test_view tests.now) summary.now }
 {

@@ -26,7 +26,7 @@ pub(crate) struct AggregateSink {
 }
 
 impl AggregateSink {
-    /// Of no rows.
+    /// Returns a sink that took no row.
     pub(crate) fn new(
         alloc: Global,
         kept: Kept,

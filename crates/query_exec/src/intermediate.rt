@@ -34,7 +34,7 @@ pub(crate) fn all_numbers(alloc: Global, len: usize) -> Result<Vec<usize>, Alloc
     Ok(numbers)
 }
 
-/// True if these are the numbers of the first `len` rows, all of them and in order.
+/// Returns true if these are the numbers of the first `len` rows, all of them and in order.
 pub(crate) fn are_all(numbers: &[usize], len: usize) -> bool
     ensures { IsTrue result → AreAllNumbers numbers.now len }
 {

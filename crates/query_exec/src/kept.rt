@@ -103,7 +103,7 @@ impl Kept {
         }
     }
 
-    /// All of the rows as an answer, and a count. It takes no memory.
+    /// Returns all of the rows as an answer, and a count. It takes no memory.
     pub(crate) fn into_rows(self, count: Option<u64>) -> Rows
         requires { length self.columns.kinds ≡ length (kept_names self) }
         ensures { result ≡ record {
@@ -116,7 +116,7 @@ impl Kept {
         Rows::new(names, columns, count)
     }
 
-    /// All of the rows, and a count.
+    /// Returns all of the rows, and a count.
     pub(crate) fn whole(self, alloc: Global, count: Option<u64>) -> Result<Intermediate, AllocError>
         requires { length self.columns.kinds ≡ length (kept_names self) }
         ensures { IfOk result (Makes (Some (record {

@@ -10,7 +10,7 @@ use odata_query::NamedAggregate;
 use result_rows::picked_names;
 use std::alloc::{AllocError, Global};
 
-/// Names, and after them the aliases of aggregates.
+/// Appends the aliases of aggregates to names.
 fn with_aliases(
     names: Vec<String>,
     aggregates: &[NamedAggregate],

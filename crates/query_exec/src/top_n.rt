@@ -20,7 +20,7 @@ use std::alloc::{AllocError, Global};
 use table_store::Block;
 use typed_trees::{TruthExpr, can_fault};
 
-/// True if no item may divide by zero.
+/// Returns true if no item may divide by zero.
 pub(crate) fn none_can_fault(items: &[OrderBy]) -> bool
     ensures { result ≡ none_can_fault (map order_view items.now) }
 {

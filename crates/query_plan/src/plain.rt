@@ -5,7 +5,7 @@ ghost use Rattle.query_meaning.specs.Order.{are_plain};
 
 use odata_query::{OrderBy, plain_column};
 
-/// True if each item is a column alone.
+/// Returns true if each item is a column alone.
 pub fn are_plain(items: &[OrderBy]) -> bool
     ensures { result ≡ are_plain (map order_view items.now) }
 {

@@ -26,7 +26,7 @@ pub struct Slice {
 }
 
 impl Slice {
-    /// Of how many first rows it is, which is none if it is empty: None, if it is of all, or counts them.
+    /// Returns of how many first rows it is, 0 if it is empty; `None` if it is of all, or counts them.
     pub fn room(self) -> Option<u64>
         ensures { result ≡ room_of self.skip self.top self.counts }
     {

@@ -14,7 +14,7 @@ use crate::test::test_of;
 use std::alloc::{AllocError, Global};
 use typed_trees::{TruthExpr, truth_can_fault};
 
-/// True if a filter that comes first may divide by zero.
+/// Returns true if a filter that comes first may divide by zero.
 fn filters_can_fault(nodes: &[Node]) -> bool
     ensures { result ≡ list_any truth_can_fault_of (leading (map node_view nodes.now)) }
 {
@@ -66,7 +66,7 @@ fn push_conjuncts(
     }
 }
 
-/// The steps, with the filters that come first split at `and`.
+/// Returns the steps, with the filters that come first split at `and`.
 fn split_nodes(alloc: Global, nodes: Vec<Node>) -> Result<Vec<Node>, AllocError>
     ensures { IfOk result (λ made.
         map node_view made.items ≡ split_nodes_of (map node_view nodes.items)) }
@@ -89,7 +89,7 @@ fn split_nodes(alloc: Global, nodes: Vec<Node>) -> Result<Vec<Node>, AllocError>
     Ok(made)
 }
 
-/// The tests among the filters that come first.
+/// Returns the tests among the filters that come first.
 fn tests_of(alloc: Global, nodes: &[Node]) -> Result<Vec<ColumnTest>, AllocError>
     ensures { IfOk result (λ tests. map test_view tests.items
         ≡ filter_map test_of_condition (leading (map node_view nodes.now))) }
@@ -106,7 +106,7 @@ fn tests_of(alloc: Global, nodes: &[Node]) -> Result<Vec<ColumnTest>, AllocError
     Ok(tests)
 }
 
-/// True if the scan reads every block, and none of the filters that come first may divide by zero.
+/// Returns true if the scan reads every block, and none of the filters that come first may divide by zero.
 fn may_be_pushed(plan: &Plan) -> bool
     ensures { result ≡ may_be_pushed_of (plan_view plan.now) }
 {

@@ -13,7 +13,7 @@ use crate::push::pushed;
 use row_eval::faults_are_foreseen;
 use std::alloc::{AllocError, Global};
 
-/// Of how many first rows a step has a use: None, if it is of all.
+/// Returns of how many first rows a step has a use; `None` if it is of all.
 fn rows_needed(node: &Node) -> Option<u64>
     ensures { result ≡ rows_needed (node_view node.now) }
 {
@@ -33,7 +33,7 @@ fn chosen(node: Node, most: Option<u64>) -> Node
     }
 }
 
-/// The steps, if the best rows take the place of a whole sort.
+/// Returns the steps, if the best rows take the place of a whole sort.
 fn with_best_rows(alloc: Global, nodes: Vec<Node>) -> Result<Vec<Node>, AllocError>
     ensures { IfOk result (λ made.
         map node_view made.items ≡ best_nodes (map node_view nodes.items)) }

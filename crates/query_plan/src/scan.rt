@@ -32,7 +32,7 @@ impl Scan {
         }
     }
 
-    /// True if it reads every block.
+    /// Returns true if it reads every block.
     pub fn is_bare(&self) -> bool
         ensures { result ≡ is_bare (scan_view self.now) }
     {

@@ -52,7 +52,7 @@ impl Model for Carry {
 }
 
 impl Carry {
-    /// Before the first byte.
+    /// Returns the carry before the first byte.
     pub fn start() -> Carry
         ensures { result ≡ carry_of [] }
     {
@@ -122,7 +122,7 @@ impl Carry {
         )
     }
 
-    /// The text may end here, or is unfinished.
+    /// Checks that the text may end here; else it is unfinished.
     pub fn finish(self) -> Result<(), Unfinished>
         ensures { (text : List ℕ) → self ≡ carry_of text → IsViable text → MatchResult result
             (λ _. (records : List (List Field)) × AreRecords text records)

@@ -4,7 +4,7 @@ ghost use Rattle.std.specs.Int.{bit_at};
 ghost use Rattle.std.specs.Int.RustNames.{count_ones};
 ghost use Rattle.quote_parity.specs.Words.{ones_below};
 
-/// Bit i is the parity of the bits 0 to i.
+/// Returns a word whose bit i is the parity of the bits 0 to i.
 #[inline(always)]
 pub fn prefix_xor(word: u64) -> u64
     ensures { (i : ℕ) → i < 64 → bit_at result i ≡ ones_below word (i + 1) % 2 }

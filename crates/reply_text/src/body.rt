@@ -12,7 +12,7 @@ use result_rows::Rows;
 use std::alloc::{AllocError, Global};
 use table_store::{Catalog, Table};
 
-/// Rows as a JSON object whose member `value` has an object for each row (OData 4.01 JSON Format, section 13).
+/// Returns rows as a JSON object whose member `value` has an object for each row (OData 4.01 JSON Format, section 13).
 pub fn json_body(alloc: Global, rows: &Rows) -> Result<Vec<u8>, AllocError>
     ensures { IfOk result (λ body. body.items ≡ rows_text rows.now) }
 {
@@ -93,7 +93,7 @@ fn push_entries(out: &mut Vec<u8>, tables: &[Table]) -> Result<(), AllocError>
     Ok(())
 }
 
-/// The service document: a JSON object whose member `value` has an object for each table, in the order of the metadata
+/// Returns the service document: a JSON object whose member `value` has an object for each table, in the order of the metadata
 /// (OData 4.01 JSON Format, section 5).
 pub fn service_body(alloc: Global, catalog: &Catalog) -> Result<Vec<u8>, AllocError>
     ensures { IfOk result (λ body. body.items ≡ service_text catalog.now.tables) }

@@ -65,7 +65,7 @@ fn push_lines(out: &mut Vec<u8>, rows: &Rows, most: usize) -> Result<usize, Allo
     Ok(rows.len())
 }
 
-/// Rows as CSV: a line of the names, and a line for each row, each ended by CR LF.
+/// Returns rows as CSV: a line of the names, and a line for each row, each ended by CR LF.
 pub fn csv_body(alloc: Global, rows: &Rows) -> Result<Vec<u8>, AllocError>
     ensures { IfOk result (λ body. body.items ≡ csv_text rows.now) }
 {

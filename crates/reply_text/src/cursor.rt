@@ -64,7 +64,7 @@ fn of_pieces(pieces: Pieces, sizes: Sizes) -> Result<BodyCursor, AllocError>
 }
 
 impl BodyCursor {
-    /// Rows as a JSON object whose member `value` has an object for each row (OData 4.01 JSON Format, section 13): what stands before the rows, each row,
+    /// Returns rows as a JSON object whose member `value` has an object for each row (OData 4.01 JSON Format, section 13): what stands before the rows, each row,
     /// what stands after them. At an `Err` memory ran out, or the body has more bytes than 64 bits tell.
     pub fn json(alloc: Global, rows: Rows) -> Result<BodyCursor, AllocError>
         ensures bytes { IfOk result (λ body. body.bytes ≡ rows_text rows) }
@@ -92,7 +92,7 @@ impl BodyCursor {
         Ok(body)
     }
 
-    /// Rows as CSV: the line of the names, and a line for each row. At an `Err` the body has more bytes than 64 bits tell.
+    /// Returns rows as CSV: the line of the names, and a line for each row. At an `Err` the body has more bytes than 64 bits tell.
     pub fn csv(rows: Rows) -> Result<BodyCursor, AllocError>
         ensures bytes { IfOk result (λ body. body.bytes ≡ csv_text rows) }
         ensures longest { IfOk result (λ body. body.longest ≡ longest_of (csv_pieces rows)) }
@@ -121,7 +121,7 @@ impl BodyCursor {
         Ok(BodyCursor::of_bytes(bytes))
     }
 
-    /// Bytes that are there, as one piece.
+    /// Returns bytes that are there, as one piece.
     pub fn of_bytes(bytes: Vec<u8>) -> BodyCursor
         ensures bytes { result.bytes ≡ bytes.items }
         ensures longest { result.longest ≡ length bytes.items }
@@ -143,7 +143,7 @@ impl BodyCursor {
         self.size
     }
 
-    /// True if no byte is left.
+    /// Returns true if no byte is left.
     pub fn is_empty(&self) -> bool
         ensures { result ≡ (length self.now.bytes == 0) }
     {

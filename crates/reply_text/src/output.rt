@@ -56,7 +56,7 @@ fn took_of(first: &mut Reply, others: &mut VecDeque<Reply>, count: usize)
     }
 }
 
-/// A reply of which nothing waits is let go with its buffer and with what its body was written from.
+/// Drops a reply of which nothing waits, with its buffer and with what its body was written from.
 fn let_go(alloc: Global, first: &mut Reply)
     ensures { first.new ≡ first.old }
 {
@@ -66,7 +66,7 @@ fn let_go(alloc: Global, first: &mut Reply)
 }
 
 impl Output {
-    /// Nothing waits. It takes no memory.
+    /// Returns an output of which nothing waits. It takes no memory.
     pub fn new(alloc: Global) -> Output
         ensures { result ≡ [] }
     {
@@ -77,7 +77,7 @@ impl Output {
         }
     }
 
-    /// True if nothing waits.
+    /// Returns true if nothing waits.
     pub fn is_empty(&self) -> bool
         ensures { result ≡ (length self.now == 0) }
     {
@@ -114,7 +114,7 @@ impl Output {
         Ok(())
     }
 
-    /// First bytes of those that wait: one at least, if any waits.
+    /// Returns first bytes of those that wait: one at least, if any waits.
     pub fn waiting(&self) -> &[u8]
         ensures { IsFront result.now self.now }
     {

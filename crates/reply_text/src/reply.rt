@@ -49,7 +49,7 @@ fn fill(laid: &mut Vec<u8>, body: &mut BodyCursor)
 }
 
 impl Reply {
-    /// These bytes.
+    /// Returns a reply of these bytes.
     pub fn of_bytes(alloc: Global, bytes: Vec<u8>) -> Reply
         ensures { result ≡ bytes.items }
     {
@@ -91,14 +91,14 @@ impl Reply {
         Ok(laid)
     }
 
-    /// True if nothing waits.
+    /// Returns true if nothing waits.
     pub fn is_empty(&self) -> bool
         ensures { result ≡ (length self.now == 0) }
     {
         self.at == self.laid.len()
     }
 
-    /// First bytes of those that wait: one at least, if any waits.
+    /// Returns first bytes of those that wait: one at least, if any waits.
     pub fn waiting(&self) -> &[u8]
         ensures { IsFront result.now self.now }
     {

@@ -16,7 +16,7 @@ pub struct RowSizes {
 }
 
 impl RowSizes {
-    /// None was counted.
+    /// Returns the sizes of no rows.
     pub fn none() -> RowSizes
         ensures json { (rows : RowsOf) → AreJsonSizes result 0 rows }
         ensures csv { (rows : RowsOf) → AreCsvSizes result 0 rows }

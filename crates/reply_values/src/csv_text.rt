@@ -5,21 +5,21 @@ ghost use Rattle.reply_values.specs.Csv.{is_quoted_byte, needs_quotes};
 
 use crate::lanes::unquoted_in;
 
-/// True if a byte stands in double quotes alone.
+/// Returns true if a byte stands in double quotes alone.
 fn is_quoted_byte(byte: u8) -> bool
     ensures { result ≡ is_quoted_byte byte }
 {
     byte == b'"' || byte == b',' || byte == b'\r' || byte == b'\n'
 }
 
-/// True if a text shorter than a block has such a byte.
+/// Returns true if a text shorter than a block has such a byte.
 fn short_has_quoted_byte(text: &[u8]) -> bool
     ensures { result ≡ list_any is_quoted_byte text.now }
 {
     text.iter().any(|byte| is_quoted_byte(*byte))
 }
 
-/// True if a text has such a byte, looked at a block at a time. The last block ends where the text does, over bytes that were seen.
+/// Returns true if a text has such a byte, looked at a block at a time. The last block ends where the text does, over bytes that were seen.
 #[inline(always)]
 fn has_quoted_byte_by<const N: usize>(text: &[u8]) -> bool
     requires some { 0 < N }
@@ -38,7 +38,7 @@ fn has_quoted_byte_by<const N: usize>(text: &[u8]) -> bool
     unquoted_in::<N>(text, last) < N
 }
 
-/// True if a text has such a byte.
+/// Returns true if a text has such a byte.
 #[inline(always)]
 fn has_quoted_byte(text: &[u8]) -> bool
     ensures { result ≡ list_any is_quoted_byte text.now }
@@ -51,7 +51,7 @@ fn has_quoted_byte(text: &[u8]) -> bool
     }
 }
 
-/// True if a text stands in double quotes.
+/// Returns true if a text stands in double quotes.
 #[inline(always)]
 pub fn needs_quotes(text: &[u8]) -> bool
     ensures { result ≡ needs_quotes text.now }

@@ -45,7 +45,7 @@ fn push_escaped(out: &mut Vec<u8>, byte: u8) -> Result<(), AllocError>
     }
 }
 
-/// True if another text stands for a byte.
+/// Returns true if another text stands for a byte.
 fn needs_escape(byte: u8) -> bool
     ensures { result ≡ needs_escape byte }
 {

@@ -48,7 +48,7 @@ fn one_row(alloc: Global, values: &[Value<'_>]) -> Result<Columns, AllocError>
 }
 
 impl Rows {
-    /// Rows of columns, with a name for each column.
+    /// Returns rows of columns, with a name for each column.
     pub fn new(names: Vec<String>, columns: Columns, count: Option<u64>) -> Rows
         requires { length columns.kinds ≡ length names.items }
         ensures { result ≡ record {

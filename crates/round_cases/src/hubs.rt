@@ -3,7 +3,7 @@ use crate::rounds::tables;
 use odata_hub::{Conn, Hub, HubFault, Turned};
 use std::test::Fail;
 
-/// True if the calls of a free hub of one place are answered as they have to be.
+/// Returns true if the calls of a free hub of one place are answered as they have to be.
 fn is_right(hub: &mut Hub) -> bool {
     let place = Conn(0);
     let is_full = hub.open() == Ok(place) && hub.open() == Err(HubFault::Full);
@@ -26,7 +26,7 @@ fn one_place(rt: HostRuntime) -> Result<(), Fail> {
 /// The front of a reply to what is no head.
 const REFUSED: &[u8] = b"HTTP/1.1 400 Bad Request\r\n";
 
-/// True if the rest of a connection is hopeless with the byte that no head has at its place, and not before; and its end brings the reply.
+/// Returns true if the rest of a connection is hopeless with the byte that no head has at its place, and not before; and its end brings the reply.
 fn tells_rests(hub: &mut Hub, place: Conn) -> bool {
     let may_begin = hub.is_hopeless(place) == Ok(false)
         && hub.piece(place, b"GET / HTTP/1.1\r\nX") == Ok(())

@@ -85,7 +85,7 @@ fn hub_of(alloc: Global, cases: &[Case]) -> Result<Hub, AllocError> {
     Ok(hub)
 }
 
-/// Their peers.
+/// Returns their peers.
 fn peers_of(alloc: Global, cases: &[Case]) -> Result<Scripts<'static>, AllocError> {
     let mut peers = Vec::new(alloc);
     for case in cases {
@@ -205,7 +205,7 @@ const RELOADED: &[Case] = &[
     },
 ];
 
-/// True if a peer took what it is given, and its place ended so.
+/// Returns true if a peer took what it is given, and its place ended so.
 fn is_right(peer: Option<&Peer<'_>>, case: &Case) -> bool {
     match peer {
         Some(peer) => peer.end == case.end && peer.taken.as_slice() == case.given.as_bytes(),

@@ -65,7 +65,7 @@ impl Columns {
         })
     }
 
-    /// No rows yet, for those of a table's columns that have these places, counted from 0.
+    /// Returns no rows yet, for those of a table's columns that have these places, counted from 0.
     pub fn of_places(
         alloc: Global,
         columns: &[Column],
@@ -83,7 +83,7 @@ impl Columns {
         })
     }
 
-    /// Rows of `width` values of any kind.
+    /// Returns rows of `width` values of any kind.
     pub fn of_rows(
         alloc: Global,
         width: usize,

@@ -36,7 +36,7 @@ impl Model for Piece {
 }
 
 impl Piece {
-    /// Those of the columns of a block that have these places.
+    /// Returns those of the columns of a block that have these places.
     pub(crate) fn of_places(
         alloc: Global,
         block: &Block<'_>,

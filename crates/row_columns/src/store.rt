@@ -70,7 +70,7 @@ pub(crate) fn types_at(
     Ok(made)
 }
 
-/// Those of the types that have these places.
+/// Returns those of the types that have these places.
 fn types_picked(
     alloc: Global,
     types: &[Option<PackedType>],

@@ -29,7 +29,7 @@ fn turns_of(alloc: Global, numbers: &RowNumbers) -> Result<Vec<Turn>, AllocError
 }
 
 impl Columns {
-    /// All rows by their places, in the order of their table; nothing if they stand in it.
+    /// Returns all rows by their places, in the order of their table; nothing if they stand in it.
     pub fn turns(&self, alloc: Global) -> Result<Option<Vec<usize>>, AllocError>
         ensures { IfOk result (λ made. IfSome made (λ turns.
             IsPermutation (numbers_from 0 (length self.now.rows)) turns.items)) }

@@ -6,7 +6,7 @@ use cell_types::Value;
 use std::alloc::{AllocError, Global};
 use std::borrow::CowStr;
 
-/// The value, whose text is lent.
+/// Returns the value, whose text is lent.
 pub fn lent<'a>(value: &'a Value<'static>) -> Value<'a>
     ensures { value_view result ≡ value_view value.now }
 {

@@ -9,7 +9,7 @@ ghost use Rattle.row_eval.specs.Comparison.{compared, holds as holds_of, is_amon
 use std::cmp::Ordering;
 use typed_trees::ComparisonOperator;
 
-/// True if a comparison holds of values in an order; none stands for a value beside null.
+/// Returns true if a comparison holds of values in an order; none stands for a value beside null.
 pub fn holds(operator: ComparisonOperator, order: Option<Ordering>) -> bool
     ensures { result ≡ holds_of operator order }
 {
@@ -59,14 +59,14 @@ pub(crate) fn text_order(left: Option<&str>, right: Option<&str>) -> Option<Orde
     }
 }
 
-/// True if the order is that of equal values.
+/// Returns true if the order is that of equal values.
 fn is_equal(order: Option<Ordering>) -> bool
     ensures { result ≡ is_equal_of order }
 {
     matches!(order, Some(Ordering::Equal))
 }
 
-/// True if a number is one of a list.
+/// Returns true if a number is one of a list.
 pub(crate) fn number_among(value: Option<i128>, items: &[Option<i128>]) -> bool
     ensures { result ≡ is_among int_cmp value items.now }
 {
@@ -78,7 +78,7 @@ pub(crate) fn number_among(value: Option<i128>, items: &[Option<i128>]) -> bool
     false
 }
 
-/// True if a truth is one of a list.
+/// Returns true if a truth is one of a list.
 pub(crate) fn boolean_among(value: Option<bool>, items: &[Option<bool>]) -> bool
     ensures { result ≡ is_among bool_cmp value items.now }
 {
@@ -100,7 +100,7 @@ fn item_text(item: &Option<String>) -> Option<&str>
     }
 }
 
-/// True if a text is one of a list.
+/// Returns true if a text is one of a list.
 pub(crate) fn text_among(value: Option<&str>, items: &[Option<String>]) -> bool
     ensures { result ≡ is_among (slice_cmp nat_cmp) (option_map (λ t. t.now) value.entry)
         (map optional_text items.now) }

@@ -20,7 +20,7 @@ use std::alloc::Global;
 use std::borrow::CowStr;
 use typed_trees::{ComparisonOperator, NumberExpr, TextExpr, TextTest};
 
-/// The text, if there is one.
+/// Returns the text, if there is one.
 fn borrowed<'t>(text: &'t Option<CowStr<'_>>) -> Option<&'t str>
     ensures { option_map (λ t. t.now) result ≡ option_map cow_str_bytes text.now }
 {
@@ -30,7 +30,7 @@ fn borrowed<'t>(text: &'t Option<CowStr<'_>>) -> Option<&'t str>
     }
 }
 
-/// `contains`, `startswith` and `endswith`; null beside a null.
+/// Returns what `contains`, `startswith` or `endswith` is of texts; null beside a null.
 fn test_texts(test: TextTest, text: Option<&str>, part: Option<&str>) -> Option<bool>
     ensures { result ≡ joined (text_passes_of test) (option_map (λ t. t.now) text.entry)
         (option_map (λ t. t.now) part.entry) }
@@ -105,7 +105,7 @@ pub(crate) fn text_is_in(
     Ok(truth_of(text_among(borrowed(&value), items)))
 }
 
-/// `contains`, `startswith` or `endswith` on a row.
+/// Returns what `contains`, `startswith` or `endswith` is on a row.
 pub(crate) fn text_test_holds(
     alloc: Global,
     test: TextTest,

@@ -62,14 +62,14 @@ fn char_count(text: &str) -> usize
     text.chars().count()
 }
 
-/// `length` of a text.
+/// Returns the `length` of a text.
 pub(crate) fn length_in(text: &str) -> i128
     ensures { result ≡ length_in_of text.now }
 {
     char_count(text) as i128
 }
 
-/// True if a part stands somewhere in a text.
+/// Returns true if a part stands somewhere in a text.
 pub fn has_part(text: &str, part: &str) -> bool
     ensures { result ≡ has_part_of text.now part.now }
 {
@@ -84,7 +84,7 @@ fn char_place(text: &str, part: &str) -> Option<usize>
     Some(char_count(&text[..at]))
 }
 
-/// `indexof` of a text and a part: in characters from 0; -1 if it is no part.
+/// Returns the `indexof` of a part in a text: in characters from 0; -1 if it is no part.
 pub fn index_in(text: &str, part: &str) -> i128
     ensures { result ≡ index_in_of text.now part.now }
 {
@@ -94,21 +94,21 @@ pub fn index_in(text: &str, part: &str) -> i128
     }
 }
 
-/// True if a text begins with a part.
+/// Returns true if a text begins with a part.
 fn starts_with(text: &str, part: &str) -> bool
     ensures { result ≡ starts_with_of nat_eq text.now part.now }
 {
     text.starts_with(part)
 }
 
-/// True if a text ends with a part.
+/// Returns true if a text ends with a part.
 fn ends_with(text: &str, part: &str) -> bool
     ensures { result ≡ ends_with_of nat_eq text.now part.now }
 {
     text.ends_with(part)
 }
 
-/// `contains`, `startswith` and `endswith` of a text and a part.
+/// Returns what `contains`, `startswith` or `endswith` is of a text and a part.
 pub fn text_passes(test: TextTest, text: &str, part: &str) -> bool
     ensures { result ≡ text_passes_of test text.now part.now }
 {

@@ -12,7 +12,7 @@ pub enum Truth {
     True,
 }
 
-/// `and`.
+/// Returns the `and` of two truths.
 #[inline(always)]
 pub fn least(left: Truth, right: Truth) -> Truth
     ensures { result ≡ least_of left right }
@@ -24,7 +24,7 @@ pub fn least(left: Truth, right: Truth) -> Truth
     }
 }
 
-/// `or`.
+/// Returns the `or` of two truths.
 #[inline(always)]
 pub fn greatest(left: Truth, right: Truth) -> Truth
     ensures { result ≡ greatest_of left right }
@@ -36,7 +36,7 @@ pub fn greatest(left: Truth, right: Truth) -> Truth
     }
 }
 
-/// `not`.
+/// Returns the `not` of a truth.
 #[inline(always)]
 pub fn opposite(truth: Truth) -> Truth
     ensures { result ≡ opposite_of truth }
@@ -48,7 +48,7 @@ pub fn opposite(truth: Truth) -> Truth
     }
 }
 
-/// True or false.
+/// Returns true or false.
 #[inline(always)]
 pub fn truth_of(value: bool) -> Truth
     ensures { result ≡ truth_of_bool value }

@@ -10,7 +10,7 @@ use std::alloc::{AllocError, Global};
 /// The name of the file that has the metadata of a folder.
 pub const METADATA: &str = "csv-metadata.json";
 
-/// True if metadata was not read because memory ran out.
+/// Returns true if metadata was not read because memory ran out.
 pub(crate) fn is_memory(fault: &MetaFault) -> bool
     ensures { result ≡ is_none (meta_cause fault.now) }
 {

@@ -40,7 +40,7 @@ pub(crate) fn plain_len<R: Files>(files: &R, path: &str, follows: bool) -> io::R
     Ok(found.len())
 }
 
-/// True if both are of one file of one device.
+/// Returns true if both are of one file of one device.
 fn is_same(one: &Metadata, other: &Metadata) -> bool {
     one.dev() == other.dev() && one.ino() == other.ino()
 }

@@ -83,7 +83,7 @@ pub fn tells_lines()
     exit_statuses::faults_are_one_line();
 }
 
-/// True if a write to a descriptor returns at once: it has room, or it fails.
+/// Returns true if a write to a descriptor returns at once: it has room, or it fails.
 fn has_room(fd: i32) -> bool {
     let mut asked = [pollfd {
         fd,

@@ -19,7 +19,7 @@ pub enum ListeningSocket {
     Closed,
 }
 
-/// True if there is a socket at a path on which nobody listens.
+/// Returns true if there is a socket at a path on which nobody listens.
 fn is_stale<R: Files + Net>(rt: &R, path: &str) -> io::Result<bool> {
     if !fs::symlink_metadata(rt, path)?.file_type().is_socket() {
         return Ok(false);

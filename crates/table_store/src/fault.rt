@@ -88,7 +88,7 @@ impl LoadFault {
         }
     }
 
-    /// True if memory ran out.
+    /// Returns true if memory ran out.
     pub fn is_memory(&self) -> bool
         ensures { result ≡ is_none (load_cause self.now) }
     {
@@ -108,7 +108,7 @@ impl LoadFault {
     }
 }
 
-/// A file, and what is wrong with it.
+/// Returns a file, and what is wrong with it.
 fn file_text(alloc: Global, file: &str, cause: &str) -> Result<String, AllocError>
     ensures { IfOk result (λ text. string_bytes text ≡ file_text_of file.now cause.now) }
 {
@@ -118,7 +118,7 @@ fn file_text(alloc: Global, file: &str, cause: &str) -> Result<String, AllocErro
     Ok(text)
 }
 
-/// A table, the cell that has no value, and the name of the fault.
+/// Returns a table, the cell that has no value, and the name of the fault.
 fn cell_text(
     alloc: Global,
     table: &str,
@@ -134,7 +134,7 @@ fn cell_text(
     file_text(alloc, table, cause.as_str())
 }
 
-/// A table, what is wrong with it, and the row or the header cell if it is.
+/// Returns a table, what is wrong with it, and the row or the header cell if it is.
 fn text_at(alloc: Global, table: &str, cause: &str, place: usize) -> Result<String, AllocError>
     ensures { IfOk result
         (λ text. string_bytes text ≡ file_text_of table.now (cause.now ++ decimal place)) }

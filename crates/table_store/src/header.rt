@@ -10,21 +10,21 @@ use cell_types::Column;
 use csv_index::IndexedText;
 use std::alloc::{AllocError, Global};
 
-/// True if a text is among some titles.
+/// Returns true if a text is among some titles.
 fn is_title(titles: &[String], text: &str) -> bool
     ensures { result ≡ list_any (λ title. bytes_eq (string_bytes title) text.now) titles.now }
 {
     titles.iter().any(|title| title.as_str() == text)
 }
 
-/// True if a header cell of a column may be that text.
+/// Returns true if a header cell of a column may be that text.
 fn is_called(column: &Column, text: &str) -> bool
     ensures { result ≡ is_called_by (column_view column.now) text.now }
 {
     column.name.as_str() == text || is_title(column.titles.as_slice(), text)
 }
 
-/// The first place where a column and a header cell do not match or one is missing.
+/// Returns the first place where a column and a header cell do not match or one is missing.
 pub fn first_mismatch(
     alloc: Global,
     columns: &[Column],

@@ -23,7 +23,7 @@ const STRETCH: usize = BLOCK_ROWS;
 /// Columns, or the first cell of their rows, row by row, that has no value.
 pub type ReadColumns = Result<Vec<TypedColumn>, BadCell>;
 
-/// Out of memory, in the place of a cell.
+/// Returns that memory ran out, in the place of a cell.
 fn no_memory(row: usize) -> BadCell
     ensures { result.fault ≡ CellFault.NoMemory }
 {

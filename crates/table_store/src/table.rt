@@ -141,7 +141,7 @@ impl Table {
         let _schema = &self.schema; // a look at a field brings the invariant into sight
     }
 
-    /// The row, counted from 0, whose values in the columns of the key are those, in the order of the key (Metadata Vocabulary for
+    /// Returns the row, counted from 0, whose values in the columns of the key are those, in the order of the key (Metadata Vocabulary for
     /// Tabular Data, section 5.5); none, if no row has them or the table has no key.
     pub fn find(&self, key: &[Value<'_>]) -> Option<usize>
         ensures { result ≡ row_of (keys_of self.now) (map value_view key.now) }

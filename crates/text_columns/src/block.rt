@@ -66,7 +66,7 @@ impl Model for TextBlock {
 }
 
 impl TextBlock {
-    /// The cells, to be read.
+    /// Returns the cells, to be read.
     #[inline(always)]
     pub fn column(&self) -> TextColumn<'_>
         ensures { result ≡ self.now }

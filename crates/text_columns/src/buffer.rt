@@ -34,7 +34,7 @@ impl Model for TextBuffer {
     ghost invariant = { IsBuffer };
 }
 
-/// True if a text of `len` bytes is null, given whether an empty one is.
+/// Returns true if a text of `len` bytes is null, given whether an empty one is.
 #[inline(always)]
 fn is_null(empty_is_null: bool, len: usize) -> bool
     ensures { result ≡ (empty_is_null && len == 0) }
@@ -137,7 +137,7 @@ impl TextBuffer {
         Ok(())
     }
 
-    /// The cells, as a block keeps them.
+    /// Returns the cells, as a block keeps them.
     pub fn pack(&self, alloc: Global) -> Result<TextBlock, AllocError>
         ensures { IfOk result (λ block. block ≡ self.now.cells) }
     {

@@ -33,7 +33,7 @@ enum Look {
     Nothing,
 }
 
-/// True if both are the same text, or null.
+/// Returns true if both are the same text, or null.
 #[inline(always)]
 fn are_same(left: Option<&str>, right: Option<&str>) -> bool
     ensures { result ≡ true
@@ -46,7 +46,7 @@ fn are_same(left: Option<&str>, right: Option<&str>) -> bool
     }
 }
 
-/// True if two rows are both null, or have the same text.
+/// Returns true if two rows are both null, or have the same text.
 #[inline(always)]
 fn have_same_text(column: &TextColumn<'_>, left: usize, right: usize) -> bool
     requires left { left < length column.now }

@@ -38,7 +38,7 @@ impl<'t> Model for TextColumn<'t> {
         (option_copied c.codes) };
 }
 
-/// True if a row is null; none is, past the end of the marks.
+/// Returns true if a row is null; none is, past the end of the marks.
 #[inline(always)]
 pub(crate) fn is_marked(nulls: &[bool], row: usize) -> bool
     ensures { result ≡ slice_index_or nulls.now row false }

@@ -41,7 +41,7 @@ fn quote_at(lanes: u8x16) -> usize
     }
 }
 
-/// True if a double quote stands in a text.
+/// Returns true if a double quote stands in a text.
 #[inline(always)]
 fn has_quote(piece: &[u8], rest: &[u8]) -> bool
     requires { take (length piece.now) rest.now ≡ piece.now }
@@ -92,7 +92,7 @@ fn copy_halves(piece: &[u8], out: &mut [u8], at: usize) -> usize
     end
 }
 
-/// True if a double quote stands inside the quotes of a field.
+/// Returns true if a double quote stands inside the quotes of a field.
 #[inline(always)]
 fn has_inner_quote(piece: &[u8], quoted: bool, rest: &[u8]) -> bool
     requires { take (length piece.now) rest.now ≡ piece.now }

@@ -30,7 +30,7 @@ fn answer_at(is_wanted: bool, question: TextQuestion<'_>, texts: Texts<'_>, row:
     answer_of(question, texts.at(row))
 }
 
-/// What is said of the texts of the wanted rows.
+/// Writes what is said of the texts of the wanted rows.
 fn answer_each(question: TextQuestion<'_>, texts: Texts<'_>, wanted: &[bool], out: &mut [Truth])
     requires texts { AreTextsLong (length out.old) texts }
     requires wanted { length wanted.now ≡ length out.old }

@@ -21,7 +21,7 @@ fn equality_of(text: Option<&str>, other: &str) -> Truth
     truth_of(are_same(text, Some(other)))
 }
 
-/// Whether the texts of a column are the same as one. All are looked at, by their lengths first.
+/// Returns whether the texts of a column are the same as one. All are looked at, by their lengths first.
 fn equal_each(texts: &TextColumn<'_>, other: &str, out: &mut [Truth])
     requires { length out.old ≡ length texts.now }
     ensures { (row : ℕ) → row < length texts.now → truth_lane out.new row

@@ -32,7 +32,7 @@ fn relation_at(
     relation_of(relation, left.at(row), right.at(row))
 }
 
-/// What a relation says of texts, on the wanted rows.
+/// Writes what a relation says of texts, on the wanted rows.
 fn relate_each(
     relation: TextRelation,
     left: Texts<'_>,

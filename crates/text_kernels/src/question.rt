@@ -29,7 +29,7 @@ fn item_text(item: &Option<String>) -> Option<&str>
     }
 }
 
-/// True if a text is one of the items.
+/// Returns true if a text is one of the items.
 fn is_item(text: Option<&str>, items: &[Option<String>]) -> bool
     ensures { result ≡ is_among (slice_cmp nat_cmp) (option_map (λ t. t.now) text.entry)
         (map optional_text items.now) }

@@ -30,7 +30,7 @@ fn text_order(left: Option<&str>, right: Option<&str>) -> Option<Ordering>
     }
 }
 
-/// True if two texts are the same. Of texts of different lengths no byte is looked at.
+/// Returns true if two texts are the same. Of texts of different lengths no byte is looked at.
 #[inline(always)]
 fn is_same_text(left: &str, right: &str) -> bool
     ensures { result ≡ bytes_eq left.now right.now }
@@ -41,7 +41,7 @@ fn is_same_text(left: &str, right: &str) -> bool
     left == right
 }
 
-/// True if both are the same text, or null.
+/// Returns true if both are the same text, or null.
 #[inline(always)]
 pub(crate) fn are_same(left: Option<&str>, right: Option<&str>) -> bool
     ensures { result ≡ is_equal (compared (slice_cmp nat_cmp) (option_map (λ t. t.now) left.entry)
@@ -54,7 +54,7 @@ pub(crate) fn are_same(left: Option<&str>, right: Option<&str>) -> bool
     }
 }
 
-/// True if a comparison holds of two texts.
+/// Returns true if a comparison holds of two texts.
 fn texts_hold(operator: ComparisonOperator, left: Option<&str>, right: Option<&str>) -> bool
     ensures { result ≡ holds_of operator (compared (slice_cmp nat_cmp)
         (option_map (λ t. t.now) left.entry) (option_map (λ t. t.now) right.entry)) }
@@ -66,7 +66,7 @@ fn texts_hold(operator: ComparisonOperator, left: Option<&str>, right: Option<&s
     }
 }
 
-/// `contains`, `startswith` and `endswith`; null beside a null.
+/// Returns what `contains`, `startswith` or `endswith` is of texts; null beside a null.
 fn test_of(test: TextTest, text: Option<&str>, part: Option<&str>) -> Truth
     ensures { result ≡ related (TextRelation.Test test) (option_map (λ t. t.now) text.entry)
         (option_map (λ t. t.now) part.entry) }

@@ -22,7 +22,7 @@ fn truth_by_mark(text: Option<&str>, is_marked: bool) -> Truth
     }
 }
 
-/// What marks say of the texts of a column.
+/// Writes what marks say of the texts of a column.
 fn truth_each(texts: &TextColumn<'_>, marks: &[bool], out: &mut [Truth])
     requires marks { length marks.now ≡ length texts.now }
     requires out { length out.old ≡ length texts.now }

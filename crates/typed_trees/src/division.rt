@@ -8,14 +8,14 @@ ghost use Rattle.typed_trees.specs.TypedTree.{number_view, truth_view, typed_vie
 use crate::operator::ArithmeticOperator;
 use crate::tree::{NumberExpr, TruthExpr, TypedExpr};
 
-/// True if an operator divides.
+/// Returns true if an operator divides.
 fn divides(operator: ArithmeticOperator) -> bool
     ensures { result ≡ divides_of operator }
 {
     matches!(operator, ArithmeticOperator::Div | ArithmeticOperator::Mod)
 }
 
-/// True if an expression is a number literal that is not zero.
+/// Returns true if an expression is a number literal that is not zero.
 fn is_nonzero(expr: &NumberExpr) -> bool
     ensures { result ≡ is_nonzero_of (number_view expr.now) }
 {
@@ -25,7 +25,7 @@ fn is_nonzero(expr: &NumberExpr) -> bool
     }
 }
 
-/// True if an expression is such a literal, perhaps after one `-`.
+/// Returns true if an expression is such a literal, perhaps after one `-`.
 fn is_safe_divisor(expr: &NumberExpr) -> bool
     ensures { result ≡ is_safe_divisor_of (number_view expr.now) }
 {
@@ -35,7 +35,7 @@ fn is_safe_divisor(expr: &NumberExpr) -> bool
     }
 }
 
-/// True if a number may have a division by zero on some row.
+/// Returns true if a number may have a division by zero on some row.
 fn number_can_fault(expr: &NumberExpr) -> bool
     ensures { result ≡ number_can_fault_of (number_view expr.now) }
 {
@@ -50,7 +50,7 @@ fn number_can_fault(expr: &NumberExpr) -> bool
     }
 }
 
-/// True if a condition may have a division by zero on some row.
+/// Returns true if a condition may have a division by zero on some row.
 pub fn truth_can_fault(expr: &TruthExpr) -> bool
     ensures { result ≡ truth_can_fault_of (truth_view expr.now) }
 {
@@ -69,7 +69,7 @@ pub fn truth_can_fault(expr: &TruthExpr) -> bool
     }
 }
 
-/// True if an expression may have a division by zero on some row.
+/// Returns true if an expression may have a division by zero on some row.
 pub fn can_fault(expr: &TypedExpr) -> bool
     ensures { result ≡ can_fault_of (typed_view expr.now) }
 {

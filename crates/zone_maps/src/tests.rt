@@ -38,7 +38,7 @@ fn opposite_of(comparison: Comparison) -> Comparison
     }
 }
 
-/// True if the range of a column tells that no row passes a test.
+/// Returns true if the range of a column tells that no row passes a test.
 fn fails_each(summary: &Summary, place: usize, test: &Test<'_>) -> bool
     ensures { IsTrue result → Says summary.now place test.now false }
 {
@@ -46,7 +46,7 @@ fn fails_each(summary: &Summary, place: usize, test: &Test<'_>) -> bool
     place < summary.width() && !admits(summary, place, test)
 }
 
-/// True if the range of a column tells that each cell is a value.
+/// Returns true if the range of a column tells that each cell is a value.
 pub fn is_each(summary: &Summary, place: usize, value: Value<'_>) -> bool
     ensures { IsTrue result → HaveCellAlone (value_view value.entry) summary.now place }
 {
@@ -58,7 +58,7 @@ pub fn is_each(summary: &Summary, place: usize, value: Value<'_>) -> bool
     fails_each(summary, place, &test)
 }
 
-/// True if the range of a column tells that no row is null.
+/// Returns true if the range of a column tells that no row is null.
 fn has_no_null(summary: &Summary, place: usize) -> bool
     ensures { IsTrue result → (cells : List CellValue) → IsRowWithin summary.now cells
         → is_null (cell_at_place cells place) ≡ false }
@@ -70,7 +70,7 @@ fn has_no_null(summary: &Summary, place: usize) -> bool
     fails_each(summary, place, &test)
 }
 
-/// True if the opposite of a test holds just if the test does not: not of an order, if there is null.
+/// Returns true if the opposite of a test holds just if the test does not: not of an order, if there is null.
 fn has_opposite(summary: &Summary, place: usize, test: &Test<'_>) -> bool
     ensures { IsTrue result → HasOpposite summary.now place test.now }
 {
@@ -80,7 +80,7 @@ fn has_opposite(summary: &Summary, place: usize, test: &Test<'_>) -> bool
     }
 }
 
-/// True if the range of a column tells that each row passes a test.
+/// Returns true if the range of a column tells that each row passes a test.
 fn passes_each(summary: &Summary, place: usize, test: Test<'_>) -> bool
     ensures { IsTrue result → Says summary.now place test.entry true }
 {
@@ -107,7 +107,7 @@ fn known_test(summary: &Summary, place: usize, test: Test<'_>) -> Option<bool>
     None
 }
 
-/// True if the range of a column tells that each cell is null or of a kind.
+/// Returns true if the range of a column tells that each cell is null or of a kind.
 fn are_of_kind(summary: &Summary, place: usize, kind: Kind) -> bool
     ensures { IsTrue result → AreOfKind kind summary.now place }
 {
