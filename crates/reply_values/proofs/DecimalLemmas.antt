@@ -1,10 +1,10 @@
 -- Zeros at the end of digits, and the text with its sign.
-use Rattle.std.proofs.Common.{◌≡◌, Result, Ok, Err, append_assoc, ℕ, ℤ, pos, negsuc, ◌<ℤ◌, ◌≤ℤ◌, ◌+◌, ◌-◌, ◌<◌, ◌≤◌, ◌&&◌, Bool, true, false, cond, List, [], ◌∷◌, ◌++◌, length, get_or, take, refl, sym, ap, ap₂, ◌∙◌, arith}
+use Rattle.std.proofs.Common.{◌≡◌, ℕ, ℤ, pos, negsuc, ◌<ℤ◌, ◌≤ℤ◌, ◌+◌, ◌-◌, ◌<◌, ◌≤◌, ◌&&◌, Bool, true, false, cond, List, [], ◌∷◌, ◌++◌, length, get_or, take, refl, sym, ap, ap₂, ◌∙◌, arith}
 use Rattle.std.specs.List.{list_all}
 use Rattle.std.proofs.lemmas.Bool.{false_from_ne_true, eqb-true}
 use Rattle.std.proofs.lemmas.List.{take_more}
 use Rattle.std.proofs.lemmas.List.Folds.{list_all-append}
-use Rattle.std.specs.Prelude.{OnOk, unsigned_abs}
+use Rattle.std.specs.Prelude.{unsigned_abs}
 use Rattle.std.proofs.lemmas.Int.{ints}
 use Rattle.std.proofs.Math.Bool.{and-true, and-false}
 use Rattle.cell_types.specs.Decimal.{decimal_text, is_zero, millionths_text, without_last_zeros}
@@ -51,9 +51,3 @@ pub text-other : (z : ℤ) → pos 0 ≤ℤ z → decimal_text z ≡ millionths_
 unfolding decimal_text
 text-other (pos n) above = refl
 text-other (negsuc n) above = absurd (omega (arith, ints, above))
-
--- what is appended in two parts
-pub appended : {T E : Type 0} (r : Result T E) (old mid new front back text : List ℕ) → mid ≡ old ++ front → OnOk r (new ≡ mid ++ back) → text ≡ front ++ back
-    → OnOk r (new ≡ old ++ text)
-appended (Ok x) old mid new front back text e h is = h ∙ ap (λ xs. xs ++ back) e ∙ append_assoc old front back ∙ ap (λ xs. old ++ xs) (sym is)
-appended (Err x) old mid new front back text e h is = tt

@@ -1,6 +1,6 @@
--- Room, refused or enough.
+-- Numbers of bytes that texts do not pass.
 use Rattle.std.specs.Prelude.{FitsSigned}
-use Rattle.std.proofs.Common.{◌≡◌, ℕ, suc, ◌+◌, ◌*◌, ◌/◌, ◌%◌, ◌^◌, ◌<◌, ◌≤◌, ℤ, pos, negsuc, ◌≤ℤ◌, Bool, true, false, cond, eqb, nat_lt, List, [], ◌∷◌, ◌++◌, Result, Ok, Err, OnErr, length, length-append, arith}
+use Rattle.std.proofs.Common.{◌≡◌, ℕ, suc, ◌+◌, ◌*◌, ◌/◌, ◌%◌, ◌^◌, ◌<◌, ◌≤◌, ℤ, pos, negsuc, ◌≤ℤ◌, Bool, true, false, cond, eqb, nat_lt, List, [], ◌∷◌, ◌++◌, length, length-append, arith}
 use Rattle.std.specs.Int.{w64}
 use Rattle.std.specs.Fmt.{decimal, signed_decimal}
 use Rattle.std.specs.List.{flat_map}
@@ -11,13 +11,6 @@ use Rattle.reply_values.specs.Json.{json_escaped, json_text}
 use Rattle.reply_values.specs.Size.{told}
 use Rattle.cell_types.specs.Decimal.{decimal_text, fraction_text, millionths_text}
 use Rattle.reply_values.proofs.DigitLemmas.{short_fraction, short_number}
-
--- what follows from a refusal
-pub when_refused : {T E : Type 0} (r : Result T E) (A B : Type 0) → (A → B) → OnErr r A → OnErr r B
-when_refused (Ok x) A B f h = tt
-when_refused (Err e) A B f h = f h
-
--- ---- numbers of bytes that texts do not pass
 
 six : (t : Bool) (xs ys : List ℕ) → length xs ≤ 6 → length ys ≤ 6 → length (cond t xs ys) ≤ 6
 six true xs ys a b = a

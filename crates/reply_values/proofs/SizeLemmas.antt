@@ -52,8 +52,3 @@ one_quote rest run tail behind place size first second whole found run_is tail_i
 
 pub no_quote : (rest : List ℕ) (size whole : ℕ) → IsFirstByte (is_byte 34) rest None → told (size + length (flat_map doubled_byte rest)) ≡ whole → told (size + length rest) ≡ whole
 no_quote rest size whole none before = ap (λ l. told (size + length l)) (sym (none_doubled rest (none_found rest none))) ∙ before
-
--- ---- room
-
-pub lengths_kept : (a b c d : List ℕ) → a ++ b ≡ c ++ d → length a + length b ≡ length c + length d
-lengths_kept a b c d same = sym (length-append a b) ∙ ap length same ∙ length-append c d

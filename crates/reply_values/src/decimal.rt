@@ -3,7 +3,9 @@ ghost use Rattle.std.specs.Prelude.{◌≡◌, ◌+◌, ◌++◌, ◌<◌, ◌�
 ghost use Rattle.cell_types.specs.Date.{four_digits as digits_of_four, two_digits as digits_of_two};
 ghost use Rattle.cell_types.specs.Decimal.{decimal_text, fraction_text, millionths_text, six_digits as digits_of_six, without_last_zeros as without_last_zeros_of};
 
-use itoa::Buffer;
+use crate::digits::decimal_size;
+use crate::put_numbers::put_decimal;
+use crate::room::make_room;
 use std::alloc::AllocError;
 
 /// How many millionths are one.
@@ -51,47 +53,6 @@ pub fn without_last_zeros(digits: &[u8]) -> &[u8]
     &digits[..len]
 }
 
-/// Appends a point and decimal places, or nothing if each is 0.
-fn push_fraction(out: &mut Vec<u8>, number: u32) -> Result<(), AllocError>
-    requires { number < 1_000_000 }
-    ensures bytes { OnOk result (out.new.items ≡ out.old.items ++ fraction_text number) }
-    ensures room { vec_capacity out.old ≤ vec_capacity out.new }
-    ensures full { OnErr result
-        (vec_capacity out.old < vec_len out.old + length (fraction_text number)) }
-{
-    if number == 0 {
-        return Ok(());
-    }
-    out.extend_from_slice(b".")?;
-    out.extend_from_slice(without_last_zeros(&six_digits(number)))
-}
-
-/// Appends a number of millionths of 64 bits, whose divisions are quick.
-fn push_short(out: &mut Vec<u8>, number: u64) -> Result<(), AllocError>
-    ensures bytes { OnOk result (out.new.items ≡ out.old.items ++ millionths_text number) }
-    ensures room { vec_capacity out.old ≤ vec_capacity out.new }
-    ensures full { OnErr result
-        (vec_capacity out.old < vec_len out.old + length (millionths_text number)) }
-{
-    out.extend_from_slice(Buffer::new().format(number / ONE).as_bytes())?;
-    push_fraction(out, (number % ONE) as u32)
-}
-
-/// Appends a number of millionths.
-fn push_millionths(out: &mut Vec<u8>, number: u128) -> Result<(), AllocError>
-    ensures bytes { OnOk result (out.new.items ≡ out.old.items ++ millionths_text number) }
-    ensures room { vec_capacity out.old ≤ vec_capacity out.new }
-    ensures full { OnErr result
-        (vec_capacity out.old < vec_len out.old + length (millionths_text number)) }
-{
-    if let Ok(short) = u64::try_from(number) {
-        return push_short(out, short);
-    }
-    let one = u128::from(ONE);
-    out.extend_from_slice(Buffer::new().format(number / one).as_bytes())?;
-    push_fraction(out, (number % one) as u32)
-}
-
 /// Appends a decimal of that many millionths: a `-` if it is negative, the whole part, and if the fraction is not 0 a point and
 /// the decimal places as far as the last that is not 0.
 pub fn push_decimal(out: &mut Vec<u8>, millionths: i128) -> Result<(), AllocError>
@@ -100,9 +61,8 @@ pub fn push_decimal(out: &mut Vec<u8>, millionths: i128) -> Result<(), AllocErro
     ensures full { OnErr result
         (vec_capacity out.old < vec_len out.old + length (decimal_text millionths)) }
 {
-    if millionths >= 0 {
-        return push_millionths(out, millionths.unsigned_abs());
-    }
-    out.extend_from_slice(b"-")?;
-    push_millionths(out, millionths.unsigned_abs())
+    let at = make_room(out, decimal_size(millionths))?;
+    let end = put_decimal(out.as_mut_slice(), at, millionths);
+    out.truncate(end);
+    Ok(())
 }

@@ -1,17 +1,15 @@
 //! The texts of values in JSON (RFC 8259), appended to one buffer.
-ghost use Rattle.jiff_fmt.specs.Text.{date_text};
-ghost use Rattle.std.specs.Prelude.{◌≡◌, ◌+◌, ◌++◌, ◌∷◌, [], ◌<◌, ◌≤◌, OnErr, OnOk, length, position, unwrap_or, vec_capacity, vec_len};
-ghost use Rattle.std.specs.List.{flat_map};
+ghost use Rattle.std.specs.Prelude.{◌≡◌, ◌+◌, ◌++◌, ◌<◌, ◌≤◌, OnErr, OnOk, length, position, unwrap_or, vec_capacity, vec_len};
 ghost use Rattle.std.specs.Fmt.{decimal};
 ghost use Rattle.cell_types.specs.Value.{value_view};
-ghost use Rattle.reply_values.specs.Json.{hex_digit, json_escaped, json_text, json_text_member, json_value, needs_escape, quote};
+ghost use Rattle.reply_values.specs.Json.{hex_digit, json_text, json_text_member, json_value, needs_escape};
 
-use crate::decimal::push_decimal;
 use crate::lanes::unescaped_in;
-use crate::value::{push_bool, push_date, push_integer};
+use crate::put_json::{put_json_value, put_text};
+use crate::room::make_room;
+use crate::text_sizes::{json_value_size, text_size};
 use cell_types::Value;
 use itoa::Buffer;
-use jiff_core::civil::Date;
 use std::alloc::AllocError;
 
 /// Returns a hexadecimal digit in lower case.
@@ -20,29 +18,6 @@ pub fn hex_digit(n: u8) -> u8
     ensures { result ≡ hex_digit n }
 {
     if n < 10 { b'0' + n } else { b'a' - 10 + n }
-}
-
-/// Appends what stands for a byte in a text.
-fn push_escaped(out: &mut Vec<u8>, byte: u8) -> Result<(), AllocError>
-    ensures bytes { OnOk result (out.new.items ≡ out.old.items ++ json_escaped byte) }
-    ensures room { vec_capacity out.old ≤ vec_capacity out.new }
-    ensures full { OnErr result
-        (vec_capacity out.old < vec_len out.old + length (json_escaped byte)) }
-{
-    match byte {
-        b'"' => out.extend_from_slice(b"\\\""),
-        b'\\' => out.extend_from_slice(b"\\\\"),
-        0x08 => out.extend_from_slice(b"\\b"),
-        0x0c => out.extend_from_slice(b"\\f"),
-        b'\n' => out.extend_from_slice(b"\\n"),
-        b'\r' => out.extend_from_slice(b"\\r"),
-        b'\t' => out.extend_from_slice(b"\\t"),
-        0x00..=0x1f => {
-            out.extend_from_slice(b"\\u00")?;
-            out.extend_from_slice(&[hex_digit(byte / 16), hex_digit(byte % 16)])
-        }
-        _ => out.extend_from_slice(&[byte]),
-    }
 }
 
 /// Returns true if another text stands for a byte.
@@ -94,25 +69,6 @@ pub fn run_len(text: &[u8]) -> usize
     }
 }
 
-/// Appends the inside of a text, whole runs at a time.
-fn push_inside(out: &mut Vec<u8>, text: &[u8]) -> Result<(), AllocError>
-    ensures bytes { OnOk result (out.new.items ≡ out.old.items ++ flat_map json_escaped text.now) }
-    ensures room { vec_capacity out.old ≤ vec_capacity out.new }
-    ensures full { OnErr result
-        (vec_capacity out.old < vec_len out.old + length (flat_map json_escaped text.now)) }
-{
-    let mut rest = text;
-    loop {
-        let (run, tail) = rest.split_at(run_len(rest));
-        out.extend_from_slice(run)?;
-        let Some((byte, others)) = tail.split_first() else {
-            return Ok(());
-        };
-        push_escaped(out, *byte)?;
-        rest = others;
-    }
-}
-
 /// Appends a text in quotes.
 pub fn push_text(out: &mut Vec<u8>, text: &[u8]) -> Result<(), AllocError>
     ensures bytes { OnOk result (out.new.items ≡ out.old.items ++ json_text text.now) }
@@ -120,9 +76,10 @@ pub fn push_text(out: &mut Vec<u8>, text: &[u8]) -> Result<(), AllocError>
     ensures full { OnErr result
         (vec_capacity out.old < vec_len out.old + length (json_text text.now)) }
 {
-    out.extend_from_slice(b"\"")?;
-    push_inside(out, text)?;
-    out.extend_from_slice(b"\"")
+    let at = make_room(out, text_size(text))?;
+    let end = put_text(out.as_mut_slice(), at, text);
+    out.truncate(end);
+    Ok(())
 }
 
 /// Appends a member whose value is a text.
@@ -138,19 +95,6 @@ pub fn push_text_member(out: &mut Vec<u8>, name: &[u8], text: &[u8]) -> Result<(
     push_text(out, text)
 }
 
-/// Appends a date in quotes.
-fn push_quoted_date(out: &mut Vec<u8>, date: Date) -> Result<(), AllocError>
-    ensures bytes { OnOk result
-        (out.new.items ≡ out.old.items ++ (quote ∷ [] ++ date_text date ++ quote ∷ [])) }
-    ensures room { vec_capacity out.old ≤ vec_capacity out.new }
-    ensures full { OnErr result (vec_capacity out.old
-        < vec_len out.old + length (quote ∷ [] ++ date_text date ++ quote ∷ [])) }
-{
-    out.extend_from_slice(b"\"")?;
-    push_date(out, date)?;
-    out.extend_from_slice(b"\"")
-}
-
 /// Appends a value.
 pub fn push_json_value(out: &mut Vec<u8>, value: &Value<'_>) -> Result<(), AllocError>
     ensures bytes { OnOk result
@@ -159,14 +103,10 @@ pub fn push_json_value(out: &mut Vec<u8>, value: &Value<'_>) -> Result<(), Alloc
     ensures full { OnErr result
         (vec_capacity out.old < vec_len out.old + length (json_value (value_view value.now))) }
 {
-    match value {
-        Value::Null => out.extend_from_slice(b"null"),
-        Value::Int(number) => push_integer(out, *number),
-        Value::Text(text) => push_text(out, text.as_str().as_bytes()),
-        Value::Bool(truth) => push_bool(out, *truth),
-        Value::Date(date) => push_quoted_date(out, *date),
-        Value::Decimal(millionths) => push_decimal(out, *millionths),
-    }
+    let at = make_room(out, json_value_size(value))?;
+    let end = put_json_value(out.as_mut_slice(), at, value);
+    out.truncate(end);
+    Ok(())
 }
 
 /// Appends a number in decimal digits.

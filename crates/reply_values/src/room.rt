@@ -1,5 +1,7 @@
 //! Bytes written into room that is there.
-ghost use Rattle.std.specs.Prelude.{◌≡◌, ◌+◌, ◌++◌, ◌∷◌, [], ◌<◌, ◌≤◌, length, take};
+ghost use Rattle.std.specs.Prelude.{◌≡◌, ◌+◌, ◌++◌, ◌∷◌, [], ◌<◌, ◌≤◌, IfOk, OnErr, length, take, vec_capacity, vec_len};
+
+use std::alloc::AllocError;
 
 /// Writes the first `len` bytes of a block.
 #[inline(always)]
@@ -70,4 +72,17 @@ pub fn put_piece(out: &mut [u8], at: usize, bytes: &[u8]) -> usize
         16..33 => put_by::<16>(out, at, bytes),
         _ => put_long_piece(out, at, bytes),
     }
+}
+
+/// Makes room for `size` bytes after those of `out`, and returns if it begins.
+pub fn make_room(out: &mut Vec<u8>, size: usize) -> Result<usize, AllocError>
+    ensures at { IfOk result (λ at. at ≡ vec_len out.old) }
+    ensures long { IfOk result (λ at. length out.new.items ≡ at + size) }
+    ensures kept { IfOk result (λ at. take at out.new.items ≡ out.old.items) }
+    ensures room { vec_capacity out.old ≤ vec_capacity out.new }
+    ensures full { OnErr result (vec_capacity out.old < vec_len out.old + size) }
+{
+    let at = out.len();
+    out.resize(at.saturating_add(size), 0)?;
+    Ok(at)
 }
