@@ -74,7 +74,7 @@ pub fn put_piece(out: &mut [u8], at: usize, bytes: &[u8]) -> usize
     }
 }
 
-/// Makes room for `size` bytes after those of `out`, and returns if it begins.
+/// Makes room for `size` bytes after those of `out`, and returns where it begins.
 pub fn make_room(out: &mut Vec<u8>, size: usize) -> Result<usize, AllocError>
     ensures at { IfOk result (λ at. at ≡ vec_len out.old) }
     ensures long { IfOk result (λ at. length out.new.items ≡ at + size) }
