@@ -12,3 +12,4 @@ pub mod KeptLemmas
 pub mod NearLemmas
 pub mod CutoffLemmas
 pub mod ColumnTestLemmas
+pub mod MergeLemmas

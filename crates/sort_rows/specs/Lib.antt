@@ -9,3 +9,4 @@ pub mod Best
 pub mod Plain
 pub mod TextKeys
 pub mod Cutoffs
+pub mod Merge

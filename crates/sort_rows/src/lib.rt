@@ -16,7 +16,7 @@ mod top_n;
 
 pub use best::best_numbers;
 pub use cutoffs::{cutoff, first_place, nearness};
-pub use law::{best_in_pieces, rows_are_cut_off};
+pub use law::{best_in_pieces, orders_are_merged, rows_are_cut_off};
 pub use passing::passing_numbers;
 pub use pieces::piece;
 pub use sorting::sorted_numbers;
