@@ -81,14 +81,7 @@ literal_short kinds.Date bytes v f s h = let day = f.day.1 in rw h (omega (arith
 literal_short kinds.Number bytes v f s h = rw h tt
 literal_short kinds.Decimal bytes v f s h = rw h tt
 literal_short kinds.Word bytes v f s h = word_short bytes v h
-literal_short kinds.Dollar bytes v f s h = absurd h
-literal_short kinds.OpenParenthesis bytes v f s h = absurd h
-literal_short kinds.CloseParenthesis bytes v f s h = absurd h
-literal_short kinds.Comma bytes v f s h = absurd h
-literal_short kinds.Slash bytes v f s h = absurd h
-literal_short kinds.Minus bytes v f s h = absurd h
-literal_short kinds.Star bytes v f s h = absurd h
-literal_short kinds.EqualsSign bytes v f s h = absurd h
+literal_short k bytes v f s h = absurd h
 
 negative_rest : {before after : List TokenOf} {v : LiteralOf} → ReadsNegative before v after → AreShort before → AreShort after
 negative_rest (negative_number k n) s = s.1

@@ -37,30 +37,11 @@ small z h = omega (arith, ints)
 typed_value : (t : DatatypeOf) (v : CellValue) → IsOfDatatype t v → IsShortValue v → IsOfType (type_of_datatype t) v
 typed_value t null h s = tt
 typed_value datatype.integer (integer z) h s = small z h
-typed_value datatype.integer (text x) h s = absurd h
-typed_value datatype.integer (boolean b) h s = absurd h
-typed_value datatype.integer (date y m d) h s = absurd h
-typed_value datatype.integer (decimal z) h s = absurd h
-typed_value datatype.text (integer z) h s = absurd h
 typed_value datatype.text (text x) h s = s
-typed_value datatype.text (boolean b) h s = absurd h
-typed_value datatype.text (date y m d) h s = absurd h
-typed_value datatype.text (decimal z) h s = absurd h
-typed_value (datatype.boolean t f) (integer z) h s = absurd h
-typed_value (datatype.boolean t f) (text x) h s = absurd h
 typed_value (datatype.boolean t f) (boolean b) h s = tt
-typed_value (datatype.boolean t f) (date y m d) h s = absurd h
-typed_value (datatype.boolean t f) (decimal z) h s = absurd h
-typed_value (datatype.date form) (integer z) h s = absurd h
-typed_value (datatype.date form) (text x) h s = absurd h
-typed_value (datatype.date form) (boolean b) h s = absurd h
 typed_value (datatype.date form) (date y m d) h s = rw h.1 (day_of h.0 m d h.2)
-typed_value (datatype.date form) (decimal z) h s = absurd h
-typed_value datatype.decimal (integer z) h s = absurd h
-typed_value datatype.decimal (text x) h s = absurd h
-typed_value datatype.decimal (boolean b) h s = absurd h
-typed_value datatype.decimal (date y m d) h s = absurd h
 typed_value datatype.decimal (decimal z) h s = small z h
+typed_value t v h s = absurd h
 
 column_value : (c : ColumnOf) (v : CellValue) → IsOfColumn c v → IsShortValue v → IsOfType (type_of_datatype c.datatype) v
 column_value c null h s = tt
