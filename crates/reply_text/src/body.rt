@@ -7,7 +7,7 @@ ghost use Rattle.reply_values.specs.Size.{told};
 
 use crate::json_rows::{push_comma, push_opening, push_row, push_rows};
 use odata_errors::Code;
-use reply_values::{push_number, push_text, push_text_member, text_member_size};
+use reply_values::{push_number, push_text, push_text_member};
 use result_rows::Rows;
 use std::alloc::{AllocError, Global};
 use table_store::{Catalog, Table};

@@ -23,5 +23,5 @@ pub use put_json::{put_json_value, put_quoted_date, put_text};
 pub use put_numbers::{put_bool, put_date, put_decimal, put_integer};
 pub use room::{put_byte, put_piece};
 pub use rooms::{decimal_room, field_room, integer_room, text_room};
-pub use text_sizes::{csv_value_size, field_size, json_value_size, text_member_size, text_size};
+pub use text_sizes::{csv_value_size, field_size, json_value_size, text_size};
 pub use value::{push_bool, push_date, push_integer};

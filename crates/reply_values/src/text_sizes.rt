@@ -3,7 +3,7 @@ ghost use Rattle.std.specs.Prelude.{◌≡◌, length};
 ghost use Rattle.std.specs.List.{flat_map};
 ghost use Rattle.cell_types.specs.Value.{value_view};
 ghost use Rattle.reply_values.specs.Csv.{csv_field, csv_value, doubled_byte};
-ghost use Rattle.reply_values.specs.Json.{json_escaped, json_text, json_text_member, json_value};
+ghost use Rattle.reply_values.specs.Json.{json_escaped, json_text, json_value};
 ghost use Rattle.reply_values.specs.Size.{told};
 
 use crate::csv_text::needs_quotes;
@@ -46,15 +46,6 @@ pub fn text_size(text: &[u8]) -> usize
     ensures { result ≡ told (length (json_text text.now)) }
 {
     inside_size(text).saturating_add(2)
-}
-
-/// Returns how many bytes a member of a JSON object takes whose value is a text.
-pub fn text_member_size(name: &[u8], text: &[u8]) -> usize
-    ensures { result ≡ told (length (json_text_member name.now text.now)) }
-{
-    text_size(name)
-        .saturating_add(1)
-        .saturating_add(text_size(text))
 }
 
 /// Returns how many bytes a value takes in JSON.
