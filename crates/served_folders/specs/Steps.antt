@@ -20,7 +20,7 @@ abbrev pub DiskGoesOn : {F : Type 0} → StepsLeft → DiskLoaded F → Type 0
 DiskGoesOn left (disk.On loading) = HasFewer loading left
 DiskGoesOn left (disk.Over catalog) = MeansTaken None catalog
 
--- after files of which so many steps were left there are fewer, or tables
+-- fewer steps than these are left in which files are taken, or all are taken and their tables are read
 abbrev pub FilesGoOn : {F : Type 0} → ℕ → Stage F → Type 0
 FilesGoOn left (Files taking) = IsTaking taking × (pieces_left taking < left)
 FilesGoOn left (Tables tables) = IsLoadingTaken tables.loading

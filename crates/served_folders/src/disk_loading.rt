@@ -1,4 +1,4 @@
-//! A folder of a disk that is loaded in steps: its files are taken piece by piece, and its tables are read a block of rows at a time.
+//! A folder of a disk that is loaded in steps: its files are taken piece by piece, and then its tables are read, some rows at a time.
 ghost use Rattle.std.specs.Prelude.{None, IfErr, IfOk, IfSome};
 ghost use Rattle.table_store.specs.Fault.{load_cause};
 ghost use Rattle.table_store.specs.FolderSteps.{steps_left};

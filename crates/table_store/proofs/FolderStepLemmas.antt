@@ -23,6 +23,7 @@ use Rattle.table_store.specs.Loading.{HasKeyColumns, IsFirstRefused, IsRefusedTa
 use Rattle.table_store.specs.Steps.{stage_left, IsAtStage, LoadsTable, ReadsRows}
 use Rattle.table_store.specs.Table.{TableOf}
 use Rattle.table_store.proofs.StageLemmas.{few_keys, few_rows}
+use Rattle.table_store.proofs.StepLemmas.{left_within}
 use Rattle.table_store.proofs.CatalogLemmas.{first_refused, HaveFiles-past, HaveTables-more}
 
 -- the first table that is refused is the cause of the folder
@@ -112,7 +113,7 @@ few_steps rows (held_by.Slots seats) = omega arith
 few_at : (limit : ℕ) (file : Option (List ℕ)) (schema : SchemaOf) (stage : Stage) → IsAtStage limit file schema stage → stage_left stage ≤ 2 ^ 34
 few_at limit file schema (stages.File indexing) at = omega (arith, at.2)
 few_at limit file schema (stages.Rows reading) at =
-    omega (arith, few_rows limit file schema (λ rows. ReadsRows schema.columns rows reading) at, at.2.reads.within)
+    omega (arith, few_rows limit file schema (λ rows. ReadsRows schema.columns rows reading) at, left_within schema.columns at.2.raw.rows reading at.2.reads, at.2.reads.stretch.from, at.2.reads.stretch.within)
 few_at limit file schema (stages.Keys keys) at = omega (arith, few_keys limit file schema keys at, few_steps keys.rows keys.held)
 
 few_left : (limit : ℕ) (file : Option (List ℕ)) (schema : SchemaOf) (table : TableLoading) → LoadsTable limit file schema table → stage_left table.stage ≤ 2 ^ 34

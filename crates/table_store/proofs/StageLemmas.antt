@@ -25,6 +25,7 @@ use Rattle.table_store.proofs.ColumnLemmas.{typed-keys, typed-rows}
 use Rattle.table_store.proofs.FitLemmas.{rows-within}
 use Rattle.table_store.proofs.InsideLemmas.{length-rows_in, rows-wide}
 use Rattle.table_store.proofs.LoadingLemmas.{rows_cause}
+use Rattle.table_store.proofs.StepLemmas.{few_left}
 
 -- the keys of the columns of rows are those of the rows
 pub keys_read : (schema : SchemaOf) (raws : List (List RawField)) (n : ℕ) (typed : List ColumnCells) → n ≡ length raws
@@ -78,7 +79,7 @@ stage_of_file limit file schema old (stages.File new) at (same, less) = (
 )
 stage_of_file limit file schema old (stages.Rows reading) at reads = (
   (old.bytes, at.0, reads),
-  omega (arith, rows-within old.bytes reads.raw reads.is, reads.short, reads.reads.within),
+  omega (arith, rows-within old.bytes reads.raw reads.is, reads.short, few_left schema.columns reads.raw.rows reading reads.reads),
 )
 stage_of_file limit file schema old (stages.Keys keys) at reads = absurd reads
 

@@ -1,6 +1,6 @@
 -- What is read of rows and of those after them.
-use Rattle.std.proofs.Common.{◌≡◌, inl, inr, ℕ, ◌+◌, ◌*◌, ◌-◌, ◌<◌, ◌≤◌, zero, suc, List, [], ◌∷◌, ◌++◌, length, length-drop, drop, take, take-append-drop, get_or, None, Some, IfOk, IfErr, Result, Ok, Err, Vec, ap, sym, subst, ◌∙◌, arith}
-use Rattle.std.proofs.lemmas.List.{drop-drop, drop-take, length-map, length-take-le, map-append}
+use Rattle.std.proofs.Common.{◌≡◌, inl, inr, ℕ, ◌+◌, ◌*◌, ◌-◌, ◌<◌, ◌≤◌, zero, suc, List, [], ◌∷◌, ◌++◌, length, length-drop, drop, take, take-append-drop, get_or, Option, None, Some, IfOk, IfErr, Result, Ok, Err, Vec, ap, sym, subst, ◌∙◌, arith}
+use Rattle.std.proofs.lemmas.List.{append-nil, drop-drop, drop-take, length-map, length-take-le, map-append}
 use Rattle.std.specs.List.{AllByRecursion}
 use Rattle.std.proofs.lemmas.Option.{same_Some, slice_get_within}
 use Rattle.block_summary.specs.Ranges.{column_of}
@@ -10,9 +10,9 @@ use Rattle.cell_types.specs.Value.{CellValue, null}
 use Rattle.csv_grammar.specs.Raw.{RawField, RawTable}
 use Rattle.csv_fields.specs.Values.{rows_in, values_in, FitsColumns}
 use Rattle.column_blocks.specs.TypedColumn.{typed_cells, AreTyped, AreWholeBlocks, ColumnCells}
-use Rattle.table_store.specs.declared.loading.BadCell.{BadCell}
+use Rattle.table_store.specs.declared.table_fault.BadCell.{BadCell}
 use Rattle.table_store.specs.Parts.{wrong_of, IsFirstBadIn}
-use Rattle.table_store.specs.Stretches.{AreAppended, AreOfColumns, HasColumns, IsReadBefore, IsReadFrom, Join}
+use Rattle.table_store.specs.Stretches.{AreAppended, AreOfColumns, AreReadTogether, AreToJoin, HasColumns, IsReadFrom, IsReadPast, Join}
 use Rattle.table_store.proofs.ColumnLemmas.{there}
 use Rattle.table_store.proofs.InsideLemmas.{length-rows_in}
 use Rattle.table_store.proofs.PartLemmas.{rows_right, values_by_column, wrong_front}
@@ -73,21 +73,6 @@ bad_after first columns rows more bad right (inl memory) = inl memory
 bad_after first columns rows more bad right (inr is) = inr (wrong_append first columns rows more right ∙ is)
 
 -- ---- columns, or the first cell that has no value
-pub columns_of_read : {A : Type 0} (first : ℕ) (columns : List ColumnOf) (rows : List (List RawField)) (read : Result (Vec ColumnCells A) BadCell) → IsReadFrom first columns rows read
-    → IfOk read (λ found. HasColumns first columns rows found.items)
-columns_of_read first columns rows (Ok found) is = is
-columns_of_read first columns rows (Err bad) is = tt
-
-pub bad_of_read : {A : Type 0} (first : ℕ) (columns : List ColumnOf) (rows : List (List RawField)) (read : Result (Vec ColumnCells A) BadCell) → IsReadFrom first columns rows read
-    → IfErr read (IsFirstBadIn first columns rows)
-bad_of_read first columns rows (Ok found) is = tt
-bad_of_read first columns rows (Err bad) is = is
-
-pub read_of_columns : {A : Type 0} (first : ℕ) (columns : List ColumnOf) (rows : List (List RawField)) (read : Result (Vec ColumnCells A) BadCell) → IsReadFrom first columns rows read
-    → IfOk read (λ found. AreOfColumns columns found.items)
-read_of_columns first columns rows (Ok found) is = of_columns columns (rows_in columns rows) found.items is.cells
-read_of_columns first columns rows (Err bad) is = tt
-
 pub read_joined : {A : Type 0} (first : ℕ) (columns : List ColumnOf) (rows more : List (List RawField)) (front later : List ColumnCells) (read : Result (Vec ColumnCells A) BadCell)
     → HasColumns first columns rows front → HasColumns (first + length rows) columns more later → IfOk read (λ found. AreAppended front later found.items)
     → IfErr read (λ bad. bad.fault ≡ NoMemory) → IsReadFrom first columns (rows ++ more) read
@@ -95,16 +80,39 @@ read_joined first columns rows more front later (Ok found) before after joined f
 read_joined first columns rows more front later (Err bad) before after joined fault = inl fault
 
 -- ---- one stretch more
-pub read_on : {A : Type 0} (first stretch : ℕ) (columns : List ColumnOf) (rows own : List (List RawField)) (after read : Result (Vec ColumnCells A) BadCell)
-    → own ≡ take (first + stretch) rows → first + stretch ≤ length rows → IsReadBefore first columns (drop first own) after read
-    → IsReadFrom (first + stretch) columns (drop (first + stretch) rows) after → IsReadFrom first columns (drop first rows) read
-read_on first stretch columns rows own after read is within before have =
-    let end = first + stretch in
-    let front : drop first own ≡ take stretch (drop first rows) = ap (drop first) is ∙ drop-take first stretch rows in
-    let size : first + length (drop first own) ≡ end = omega (arith, length-drop first own, ap length is, length-take-le end rows within) in
+blocks_between : (first size end a b : ℕ) → first + size ≡ end → first ≡ a * 4096 → end ≡ b * 4096 → size ≡ (b - a) * 4096
+blocks_between first size end a b is before after = omega (arith, is, before, after)
+
+whole_between : (first size end : ℕ) → first + size ≡ end → AreWholeBlocks first → AreWholeBlocks end → AreWholeBlocks size
+whole_between first size end is before after = (after.0 - before.0, blocks_between first size end before.0 after.0 is before.1 after.1)
+
+pub to_join : {A : Type 0} (first end : ℕ) (columns : List ColumnOf) (rows rest : List (List RawField)) (front : Result (Vec ColumnCells A) BadCell) (after : Option (Result (Vec ColumnCells A) BadCell))
+    → first + length rows ≡ end → AreWholeBlocks first → IsReadFrom first columns rows front → IsReadPast end columns rest after → AreToJoin front after
+to_join first end columns rows rest front None is whole read past = tt
+to_join first end columns rows rest (Err bad) (Some later) is whole read past = tt
+to_join first end columns rows rest (Ok found) (Some (Err bad)) is whole read past = tt
+to_join first end columns rows rest (Ok found) (Some (Ok later)) is whole read past =
+    join_columns first columns rows found.items later.items read (of_columns columns (rows_in columns rest) later.items past.1.cells) (whole_between first (length rows) end is whole past.0)
+
+rows_before : (end : ℕ) (rows own : List (List RawField)) → own ≡ take end rows → drop end rows ≡ [] → own ≡ rows
+rows_before end rows own is none = is ∙ sym (append-nil (take end rows)) ∙ ap (λ l. take end rows ++ l) (sym none) ∙ take-append-drop end rows
+
+pub read_past : {A : Type 0} (first : ℕ) (columns : List ColumnOf) (rows own : List (List RawField)) (front read : Result (Vec ColumnCells A) BadCell) (after : Option (Result (Vec ColumnCells A) BadCell))
+    → own ≡ take (length own) rows → first ≤ length own → IsReadFrom first columns (drop first own) front → IsReadPast (length own) columns (drop (length own) rows) after
+    → AreReadTogether front after read → IsReadFrom first columns (drop first rows) read
+read_past first columns rows own front read None is within before past joined =
+    subst (IsReadFrom first columns (drop first rows)) (sym joined) (subst (λ rs. IsReadFrom first columns (drop first rs) front) (rows_before (length own) rows own is past) before)
+read_past first columns rows own front read (Some after) is within before past joined =
+    let end = length own in
+    let stretch = end - first in
+    let there : first + stretch ≡ end = omega (arith, within) in
+    let front_rows : drop first own ≡ take stretch (drop first rows) = ap (drop first) is ∙ ap (λ n. drop first (take n rows)) (sym there) ∙ drop-take first stretch rows in
+    let size : first + length (drop first own) ≡ end = omega (arith, length-drop first own, within) in
     let whole : drop first own ++ drop end rows ≡ drop first rows =
-    ap (λ l. l ++ drop end rows) front ∙ ap (λ l. take stretch (drop first rows) ++ l) (sym (drop-drop stretch first rows)) ∙ take-append-drop stretch (drop first rows) in
-    subst (λ l. IsReadFrom first columns l read) whole (before (drop end rows) (subst (λ n. IsReadFrom n columns (drop end rows) after) (sym size) have))
+    ap (λ l. l ++ drop end rows) front_rows ∙ ap (λ n. take stretch (drop first rows) ++ drop n rows) (sym there)
+    ∙ ap (λ l. take stretch (drop first rows) ++ l) (sym (drop-drop stretch first rows)) ∙ take-append-drop stretch (drop first rows) in
+    subst (λ l. IsReadFrom first columns l read) whole
+    (joined first columns (drop first own) (drop end rows) before (subst (λ n. IsReadFrom n columns (drop end rows) after) (sym size) past.1))
 
 wide_first : (width count : ℕ) (rows : List (List RawField)) → AllByRecursion (λ fields. length fields ≡ width) rows
     → AllByRecursion (λ fields. length fields ≡ width) (take count rows)
@@ -116,15 +124,3 @@ pub fits_first : (columns : List ColumnOf) (file new : RawTable) (count : ℕ) �
     → FitsColumns columns new
 fits_first columns file new count is fits =
     subst (FitsColumns columns) (sym is) (record { header = fits.header; rows = wide_first (length columns) count file.rows fits.rows })
-
--- ---- whole stretches
-fewer : (first stretch count : ℕ) → 0 < stretch → stretch ≤ first → first ≡ count * stretch → (less : ℕ) × (first - stretch ≡ less * stretch)
-fewer first stretch zero some more is = absurd (omega arith)
-fewer first stretch (suc count) some more is = (count, omega arith)
-
-pub one_fewer : (first stretch : ℕ) → 0 < stretch → stretch ≤ first → (count : ℕ) × (first ≡ count * stretch) → (less : ℕ) × (first - stretch ≡ less * stretch)
-one_fewer first stretch some more times = fewer first stretch times.0 some more times.1
-
-pub none_left : (first stretch count : ℕ) → first < stretch → first ≡ count * stretch → first ≡ 0
-none_left first stretch zero less is = omega arith
-none_left first stretch (suc count) less is = absurd (omega arith)

@@ -13,8 +13,8 @@ use Rattle.cell_types.specs.Value.{CellValue}
 use Rattle.cell_types.specs.Column.{ColumnOf}
 use Rattle.csvw_meta.specs.declared.schema.Schema.{Schema}
 use Rattle.csvw_meta.specs.Schema.{SchemaOf, schema_view}
-use Rattle.table_store.specs.declared.loading.TableFault.{TableFault}
-use Rattle.table_store.specs.declared.loading.TableFault.TheVariants.{FileMissing, FileTooLarge, Text, Header, Cell, Key, NoMemory}
+use Rattle.table_store.specs.declared.table_fault.TableFault.{TableFault}
+use Rattle.table_store.specs.declared.table_fault.TableFault.TheVariants.{FileMissing, FileTooLarge, Text, Header, Cell, Key, NoMemory}
 use Rattle.table_store.specs.Table.{TableOf, mismatch_from, rows_from, HasOtherHeader, HasBadCell, HasNullKey, HasKeyTwice}
 use Rattle.table_store.specs.Fault.{TableCause, file_missing, file_too_large, bad_text, bad_header, bad_cell, key_null, key_twice, cell_cause, LoadCause, no_metadata, bad_meta, bad_table}
 use Rattle.table_store.specs.File.{FileOf}

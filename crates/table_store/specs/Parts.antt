@@ -9,7 +9,7 @@ use Rattle.block_summary.specs.Reading.{packed_type_of}
 use Rattle.csv_grammar.specs.Raw.{RawField, field_of}
 use Rattle.column_blocks.specs.ColumnReader.{ReaderOf, with_cells}
 use Rattle.column_blocks.specs.Parts.{part_cells, PartHasValues}
-use Rattle.table_store.specs.declared.loading.BadCell.{BadCell}
+use Rattle.table_store.specs.declared.table_fault.BadCell.{BadCell}
 use Rattle.table_store.specs.Table.{rows_from, values_from}
 
 -- each field of the rows has a value in its column

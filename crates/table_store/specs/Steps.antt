@@ -1,5 +1,5 @@
 -- How far the loading of a folder has come.
-use Rattle.std.specs.Prelude.{◌≡◌, ℕ, ◌+◌, ◌*◌, ◌^◌, ◌<◌, ◌≤◌, List, length, drop, take, Option, None, IfSome}
+use Rattle.std.specs.Prelude.{◌≡◌, ℕ, ◌+◌, ◌-◌, ◌*◌, ◌^◌, ◌<◌, ◌≤◌, List, length, drop, take, Option, None, IfSome}
 use Rattle.std.specs.List.{AllByRecursion}
 use Rattle.cell_types.specs.Column.{ColumnOf}
 use Rattle.csv_grammar.specs.Raw.{RawField, RawTable}
@@ -11,43 +11,43 @@ use Rattle.csv_fields.specs.Values.{FitsColumns}
 use Rattle.key_index.specs.declared.reading.KeysReading.{KeysReading}
 use Rattle.key_index.specs.declared.reading.KeyedRows.{KeyedRows}
 use Rattle.key_index.specs.Reading.{keys_left, AreHeld}
-use Rattle.column_blocks.specs.TypedColumn.{AreWholeBlocks, ColumnCells}
 use Rattle.table_store.specs.declared.reading.Stage.{Stage}
 use Rattle.table_store.specs.declared.reading.Stage.TheVariants as stages
 use Rattle.table_store.specs.declared.reading.StageStep.{StageStep}
 use Rattle.table_store.specs.declared.reading.StageStep.TheVariants as stage_steps
 use Rattle.table_store.specs.declared.stretches.RowsReading.{RowsReading}
+use Rattle.table_store.specs.declared.stretches.RowsStep.{RowsStep}
+use Rattle.table_store.specs.declared.stretches.RowsStep.TheVariants as rows_steps
 use Rattle.table_store.specs.declared.table_loading.TableLoading.{TableLoading}
 use Rattle.table_store.specs.declared.table_loading.TableStep.{TableStep}
 use Rattle.table_store.specs.declared.table_loading.TableStep.TheVariants as table_steps
 use Rattle.table_store.specs.Catalog.{HasFile, HasTable, HasTableCause}
 use Rattle.table_store.specs.Fault.{TableCause}
 use Rattle.table_store.specs.Loading.{bad_cell_of, mismatch_of, ArePartsOf, HasKeyColumns}
-use Rattle.table_store.specs.Parts.{IsFirstBadIn}
 use Rattle.table_store.specs.Table.{TableOf}
-use Rattle.table_store.specs.Stretches.{HasColumns, IsReadFrom}
-use Rattle.table_store.specs.declared.loading.BadCell.{BadCell}
+use Rattle.table_store.specs.Stretches.{HasColumns, IsReadPast, ReadsStretch}
 
--- of those rows the ones from some row on are read, and the ones before it are left, which fill their blocks
+-- the last ones of those rows are read, and the file has the others, the last of which are being read
 pub record ReadsRows (columns : List ColumnOf) (rows : List (List RawField)) (reading : RowsReading) : Type 0 where
   pub count : reading.rows ≡ length rows
   pub wide : AllByRecursion (λ fields. length fields ≡ length columns) rows
-  pub whole : AreWholeBlocks reading.first
-  pub within : reading.first ≤ length rows
   pub fits : FitsColumns columns reading.file
-  pub left : (most : ℕ) × (reading.first ≤ most) × (reading.file.rows ≡ take most rows)
-  pub read : IsReadFrom reading.first columns (drop reading.first rows) reading.read
+  pub left : reading.file.rows ≡ take (length reading.file.rows) rows
+  pub after : IsReadPast (length reading.file.rows) columns (drop (length reading.file.rows) rows) reading.after
+  pub stretch : ReadsStretch columns reading.file.rows reading.stretch
 
 -- some rows are read so
 abbrev pub IsReadingRows : List ColumnOf → RowsReading → Type 0
 IsReadingRows columns reading = (rows : List (List RawField)) × ReadsRows columns rows reading
 
--- these are the columns of the rows that are read so, and that is their first cell that has no value
-abbrev pub GivesColumns : RowsReading → List ColumnCells → Type 0
-GivesColumns reading read = (columns : List ColumnOf) (rows : List (List RawField)) → ReadsRows columns rows reading → HasColumns 0 columns rows read
+-- no more steps than these are left
+abbrev pub rows_left : RowsReading → ℕ
+rows_left reading = 2 * reading.stretch.first + (length reading.file.rows - reading.stretch.row)
 
-abbrev pub GivesBadCell : RowsReading → BadCell → Type 0
-GivesBadCell reading bad = (columns : List ColumnOf) (rows : List (List RawField)) → ReadsRows columns rows reading → IsFirstBadIn 0 columns rows bad
+-- fewer steps are left, or the rows are read
+abbrev pub RowsGoOn : List ColumnOf → List (List RawField) → ℕ → RowsStep → Type 0
+RowsGoOn columns rows left (rows_steps.On new) = ReadsRows columns rows new × (rows_left new < left)
+RowsGoOn columns rows left (rows_steps.Over read) = HasColumns 0 columns rows read.items
 
 -- the columns of those rows are read, and the keys of the first ones are read
 pub record ReadsKeys (schema : SchemaOf) (rows : List (List RawField)) (keys : KeysReading) : Type 0 where
@@ -95,16 +95,16 @@ ReachesStage schema old (stages.File new) = (new.bytes ≡ old.bytes) × (new.le
 ReachesStage schema old (stages.Rows reading) = ReadsFile schema old.bytes (λ rows. ReadsRows schema.columns rows reading)
 ReachesStage schema old (stages.Keys keys) = ⊥
 
--- fewer of those rows are left to be read, or their keys are read
+-- fewer steps are left in which those rows are read, or their keys are read
 abbrev pub RowsReadOn : SchemaOf → List (List RawField) → RowsReading → Stage → Type 0
 RowsReadOn schema rows old (stages.File new) = ⊥
-RowsReadOn schema rows old (stages.Rows new) = ReadsRows schema.columns rows new × (new.first < old.first)
+RowsReadOn schema rows old (stages.Rows new) = ReadsRows schema.columns rows new × (rows_left new < rows_left old)
 RowsReadOn schema rows old (stages.Keys keys) = ReadsKeys schema rows keys × (keys_left keys ≡ 2 * old.rows + 2)
 
--- no more steps than these are left at a stage: of a file one for each row, of which it has at most 2 to the 30, and those in which their keys are read
+-- no more steps than these are left at a stage: of a file two for each row, of which it has at most 2 to the 30, and those in which their keys are read
 abbrev pub stage_left : Stage → ℕ
-stage_left (stages.File indexing) = indexing.left + (2 ^ 32 + 2 ^ 30 + 1)
-stage_left (stages.Rows reading) = reading.first + 2 ^ 32
+stage_left (stages.File indexing) = indexing.left + (2 ^ 32 + 2 ^ 31 + 1)
+stage_left (stages.Rows reading) = rows_left reading + 2 ^ 32
 stage_left (stages.Keys keys) = keys_left keys
 
 -- less is left at a stage, or all is read

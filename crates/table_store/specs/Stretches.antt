@@ -1,11 +1,15 @@
 -- What is read of the rows of a file from one on.
-use Rattle.std.specs.Prelude.{◌≡◌, ℕ, ◌+◌, List, ◌++◌, length, None, Some, Result, Ok, Err, Vec, slice_get}
+use Rattle.std.specs.Prelude.{◌≡◌, ℕ, ◌+◌, ◌-◌, ◌<◌, ◌≤◌, List, [], ◌++◌, length, drop, take, Option, None, Some, IfOk, Result, Ok, Err, Vec, slice_get}
 use Rattle.block_summary.specs.Reading.{packed_type_of}
 use Rattle.cell_types.specs.Column.{ColumnOf}
 use Rattle.csv_grammar.specs.Raw.{RawField}
 use Rattle.csv_fields.specs.Values.{rows_in}
 use Rattle.column_blocks.specs.TypedColumn.{AreTyped, AreWholeBlocks, ColumnCells}
-use Rattle.table_store.specs.declared.loading.BadCell.{BadCell}
+use Rattle.column_blocks.specs.ColumnReader.{HaveRead}
+use Rattle.table_store.specs.declared.table_fault.BadCell.{BadCell}
+use Rattle.table_store.specs.declared.stretches.Stretch.{Stretch}
+use Rattle.table_store.specs.declared.stretches.StretchStep.{StretchStep}
+use Rattle.table_store.specs.declared.stretches.StretchStep.TheVariants as stretch_steps
 use Rattle.table_store.specs.Parts.{wrong_of, IsFirstBadIn}
 
 -- the columns of rows in which nothing is wrong, the first of which has that number
@@ -18,9 +22,11 @@ abbrev pub IsReadFrom : {A : Type 0} → ℕ → List ColumnOf → List (List Ra
 IsReadFrom first columns rows (Ok read) = HasColumns first columns rows read.items
 IsReadFrom first columns rows (Err bad) = IsFirstBadIn first columns rows bad
 
--- this is read of rows and of all that come after them, where that is read of those that come after
-abbrev pub IsReadBefore : {A : Type 0} → ℕ → List ColumnOf → List (List RawField) → Result (Vec ColumnCells A) BadCell → Result (Vec ColumnCells A) BadCell → Type 0
-IsReadBefore first columns rows after read = (rest : List (List RawField)) → IsReadFrom (first + length rows) columns rest after → IsReadFrom first columns (rows ++ rest) read
+-- these are what is read of rows, of those after them, and of both; where none are after them, there is nothing else
+abbrev pub AreReadTogether : {A : Type 0} → Result (Vec ColumnCells A) BadCell → Option (Result (Vec ColumnCells A) BadCell) → Result (Vec ColumnCells A) BadCell → Type 0
+AreReadTogether front None read = read ≡ front
+AreReadTogether front (Some after) read = (first : ℕ) (columns : List ColumnOf) (rows rest : List (List RawField))
+    → IsReadFrom first columns rows front → IsReadFrom (first + length rows) columns rest after → IsReadFrom first columns (rows ++ rest) read
 
 -- as many columns as those, each of the type of its own
 pub record AreOfColumns (columns : List ColumnOf) (read : List ColumnCells) : Type 0 where
@@ -34,6 +40,11 @@ pub record Join (front after : List ColumnCells) : Type 0 where
   pub each : (col : ℕ) (a b : ColumnCells) → slice_get front col ≡ Some a → slice_get after col ≡ Some b
       → (b.packed_type ≡ a.packed_type) × AreWholeBlocks (length a.cells)
 
+-- so may the columns that are read of rows and of those after them, where both have some
+abbrev pub AreToJoin : {A : Type 0} → Result (Vec ColumnCells A) BadCell → Option (Result (Vec ColumnCells A) BadCell) → Type 0
+AreToJoin front None = Unit {0}
+AreToJoin front (Some after) = IfOk front (λ before. IfOk after (λ later. Join before.items later.items))
+
 -- the cells of a column after those of another
 abbrev pub joined_cells : ColumnCells → ColumnCells → ColumnCells
 joined_cells a b = record a { cells = a.cells ++ b.cells }
@@ -42,3 +53,29 @@ joined_cells a b = record a { cells = a.cells ++ b.cells }
 pub record AreAppended (front after read : List ColumnCells) : Type 0 where
   pub count : length read ≡ length front
   pub each : (col : ℕ) (a b : ColumnCells) → slice_get front col ≡ Some a → slice_get after col ≡ Some b → slice_get read col ≡ Some (joined_cells a b)
+
+-- the last rows of a file of so many, which follow whole blocks; none of them is read
+pub record IsBegun (columns : List ColumnOf) (end : ℕ) (stretch : Stretch) : Type 0 where
+  pub whole : AreWholeBlocks stretch.first
+  pub within : stretch.first ≤ end
+  pub some : 0 < end → stretch.first < end
+  pub row : stretch.row ≡ stretch.first
+  pub readers : HaveRead (end - stretch.first) columns [] stretch.readers.items
+
+-- the first ones of the last rows of a file are read, in which nothing is wrong
+pub record ReadsStretch (columns : List ColumnOf) (rows : List (List RawField)) (stretch : Stretch) : Type 0 where
+  pub whole : AreWholeBlocks stretch.first
+  pub from : stretch.first ≤ stretch.row
+  pub within : stretch.row ≤ length rows
+  pub right : wrong_of stretch.first columns (drop stretch.first rows) ≡ wrong_of stretch.row columns (drop stretch.row rows)
+  pub read : HaveRead (length rows - stretch.first) columns (take (stretch.row - stretch.first) (rows_in columns (drop stretch.first rows))) stretch.readers.items
+
+-- more of them are read, or all are
+abbrev pub StretchGoesOn : List ColumnOf → List (List RawField) → Stretch → StretchStep → Type 0
+StretchGoesOn columns rows old (stretch_steps.On new) = ReadsStretch columns rows new × (new.first ≡ old.first) × (old.row < new.row)
+StretchGoesOn columns rows old (stretch_steps.Over read) = IsReadFrom old.first columns (drop old.first rows) read
+
+-- what is read of the rows that follow those of a file; nothing, where none do
+abbrev pub IsReadPast : {A : Type 0} → ℕ → List ColumnOf → List (List RawField) → Option (Result (Vec ColumnCells A) BadCell) → Type 0
+IsReadPast end columns rest None = rest ≡ []
+IsReadPast end columns rest (Some read) = AreWholeBlocks end × IsReadFrom end columns rest read

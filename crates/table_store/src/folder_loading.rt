@@ -1,4 +1,4 @@
-//! The loading of a folder in steps: each begins a table, or reads a piece of its file or a block of its rows.
+//! The loading of a folder in steps: each begins a table, or reads a piece of its file, some of its rows or the keys of some.
 ghost use Rattle.std.specs.Prelude.{◌≡◌, None, Some, IfOk, IfErr, IfSome};
 ghost use Rattle.table_store.specs.Catalog.{folder_view, FolderOf, IsRefused};
 ghost use Rattle.table_store.specs.Fault.{load_cause};
@@ -111,7 +111,7 @@ impl Loading {
         }
     }
 
-    /// Begins the next table, reads one more piece or block of rows, or ends a table. Returns the tables once all are read, or the cause of the first that is refused.
+    /// Begins the next table, reads on in one, or ends it. Returns the tables once all are read, or the cause of the first that is refused.
     pub fn step(mut self, alloc: Global) -> Result<Loaded, LoadFault>
         requires { IsLoading self }
         ensures goes_on { IfOk result (λ loaded. (folder : FolderOf) → Loads folder self

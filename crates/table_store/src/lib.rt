@@ -10,12 +10,12 @@ mod file;
 mod folder_loading;
 mod header;
 mod laws;
-mod loading;
 mod parts;
 mod reading;
 mod stretches;
 mod summaries;
 mod table;
+mod table_fault;
 mod table_loading;
 
 pub use block::Block;

@@ -3,7 +3,7 @@ ghost use Rattle.std.specs.Prelude.{◌≡◌, ◌⊎◌, ◌<◌, ◌+◌, ◌^
 ghost use Rattle.cell_types.specs.Column.{column_view};
 ghost use Rattle.table_store.specs.Parts.{wrong_at, AllColumnsHaveValues, ArePartReadOn, HavePartReaders, IsFirstBadIn};
 
-use crate::loading::BadCell;
+use crate::table_fault::BadCell;
 use cell_types::{CellFault, Column};
 use column_blocks::ColumnReader;
 use csv_fields::{Part, cell_value};

@@ -10,8 +10,8 @@ ghost use Rattle.table_store.specs.Loading.{table_cause, HasFileCause, HasKeyCol
 ghost use Rattle.table_store.specs.Steps.{IsAtStage, IsReadingRows, KeysReadOn, ReachesStage, ReadsKeys, ReadsRows, RefusesStage, RowsReadOn, StageStepsOn};
 
 use crate::header::first_mismatch;
-use crate::loading::{TableFault, fault_of};
-use crate::stretches::RowsReading;
+use crate::stretches::{RowsReading, RowsStep};
+use crate::table_fault::{TableFault, fault_of};
 use csv_index::{Indexed, Indexing, TextFault};
 use csvw_meta::Schema;
 use key_index::{KeyStep, KeyedRows, KeysReading};
@@ -53,13 +53,16 @@ fn index_step(alloc: Global, schema: &Schema, indexing: Indexing) -> Result<Stag
         Err(fault) => return Err(TableFault::Text(fault)),
     };
     match first_mismatch(alloc, schema.columns.as_slice(), &file) {
-        Ok(None) => Ok(Stage::Rows(RowsReading::start(alloc, schema.columns.as_slice(), file))),
+        Ok(None) => match RowsReading::start(alloc, schema.columns.as_slice(), file) {
+            Ok(reading) => Ok(Stage::Rows(reading)),
+            Err(_) => Err(TableFault::NoMemory),
+        },
         Ok(Some(col)) => Err(TableFault::Header(col)),
         Err(_) => Err(TableFault::NoMemory),
     }
 }
 
-/// Reads one more block of rows; once all are read, begins to read their keys, or returns the first cell, row by row, that has no value.
+/// Reads more rows; once all are read, begins to read their keys, or returns the first cell, row by row, that has no value.
 fn rows_step(alloc: Global, schema: &Schema, reading: RowsReading) -> Result<Stage, TableFault>
     requires { IsReadingRows (schema_view schema.now).columns reading }
     ensures goes_on { IfOk result (λ stage. (raws : List (List RawField))
@@ -70,13 +73,10 @@ fn rows_step(alloc: Global, schema: &Schema, reading: RowsReading) -> Result<Sta
         → IfSome (table_cause e) (HasRowsCause (schema_view schema.now) raws)) }
     ensures memory { IfErr result (λ e. table_cause e ≡ None → e ≡ TableFault.NoMemory) }
 {
-    if reading.first > 0 {
-        let reading = reading.step(alloc, schema.columns.as_slice());
-        return Ok(Stage::Rows(reading));
-    }
     let rows = reading.rows;
-    match reading.finish() {
-        Ok(columns) => Ok(Stage::Keys(KeysReading::start(columns, rows))),
+    match reading.step(alloc, schema.columns.as_slice()) {
+        Ok(RowsStep::On(reading)) => Ok(Stage::Rows(reading)),
+        Ok(RowsStep::Over(columns)) => Ok(Stage::Keys(KeysReading::start(columns, rows))),
         Err(bad) => Err(fault_of(bad)),
     }
 }
@@ -103,7 +103,7 @@ fn keys_step(alloc: Global, schema: &Schema, keys: KeysReading) -> Result<StageS
 }
 
 impl Stage {
-    /// Reads one more piece of the file of a schema's table, or one more block of its rows, or reads the keys of one more. Returns the rows with their
+    /// Reads one more piece of the file of a schema's table, or more of its rows, or the keys of more. Returns the rows with their
     /// keys once all is read, or why the table is refused.
     pub fn step(self, alloc: Global, schema: &Schema) -> Result<StageStep, TableFault>
         requires key { HasKeyColumns (schema_view schema.now) }

@@ -14,8 +14,8 @@ ghost use Rattle.table_store.specs.Summaries.{AreSummariesOf};
 ghost use Rattle.table_store.specs.Table.{keys_of};
 
 use crate::fault::LoadFault;
-use crate::loading::{BadCell, TableFault};
 use crate::summaries::summaries_of;
+use crate::table_fault::{BadCell, TableFault};
 use block_summary::{BLOCK_ROWS, PackedColumn, Summary};
 use cell_types::Value;
 use column_blocks::{BlockCells, TypedColumn};

@@ -1,4 +1,4 @@
-//! The loading of one table in steps, each of which reads a piece of its file or a block of its rows, or reads their keys.
+//! The loading of one table in steps, each of which reads a piece of its file, some of its rows or the keys of some.
 ghost use Rattle.std.specs.Prelude.{◌≡◌, ◌^◌, ◌≤◌, ℕ, List, Option, None, IfOk, IfErr, IfSome};
 ghost use Rattle.csvw_meta.specs.Laws.{HasShortDefaults};
 ghost use Rattle.csvw_meta.specs.Schema.{schema_view, SchemaOf};

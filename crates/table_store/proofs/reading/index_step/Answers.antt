@@ -17,12 +17,12 @@ start-requires c =
     subst (λ columns. FitsColumns (map column_view columns) c.in-Ok-Over.file) (sym c.as_slice-in-Ok-None.ensures.value)
     (header_fits (map column_view c.args.schema.now.columns.items) c.args.indexing.bytes c.in-Ok-Over.file (rw c.in-Ok-Over.field-0-is at c.in-Ok-Over.ensures.goes_on) (sym first))
 
-pub returns-in-Ok-None-clause-goes_on : goal.returns-in-Ok-None-clause-goes_on
-returns-in-Ok-None-clause-goes_on c =
+pub returns-in-Ok-clause-goes_on : goal.returns-in-Ok-clause-goes_on
+returns-in-Ok-clause-goes_on c =
     let first = rw (c.in-Ok-None.field-0-is, c.as_slice.ensures.value) at c.in-Ok-None.ensures in record {
       short = c.requires.short;
       raw = c.in-Ok-Over.file;
       is = (rw c.in-Ok-Over.field-0-is at c.in-Ok-Over.ensures.goes_on);
       header_matches = sym first;
-      reads = subst (λ columns. ReadsRows (map column_view columns) c.in-Ok-Over.file.rows c.start.result) c.as_slice-in-Ok-None.ensures.value c.start.ensures;
+      reads = subst (λ columns. ReadsRows (map column_view columns) c.in-Ok-Over.file.rows c.in-Ok.reading) c.as_slice-in-Ok-None.ensures.value c.in-Ok.ensures;
     }

@@ -1,26 +1,32 @@
 use Rattle.std.proofs.Common.{List, sym, subst, map, ap, ◌∙◌}
 use Rattle.cell_types.specs.Column.{column_view, ColumnOf}
 use Rattle.csvw_meta.specs.Schema.{schema_view}
-use Rattle.table_store.specs.Steps.{ReadsRows}
+use Rattle.table_store.specs.Parts.{IsFirstBadIn}
+use Rattle.table_store.specs.Steps.{rows_left, IsReadingRows, ReadsRows, RowsGoOn}
 use Rattle.table_store.specs.Stretches.{HasColumns}
 use Rattle.table_store.proofs.LoadingLemmas.{bad_cell-cause}
 use Rattle.table_store.proofs.reading.rows_step.Goals as goal
 
-pub returns-then-reading-gt0-clause-goes_on : goal.returns-then-reading-gt0-clause-goes_on
-returns-then-reading-gt0-clause-goes_on c = λ raws reads.
-    let is = ap (map column_view) c.as_slice.ensures.value in (
-      subst (λ (columns : List ColumnOf). ReadsRows columns raws c.step-reading.result) is
-          (c.step-reading.ensures.reads raws (subst (λ (columns : List ColumnOf). ReadsRows columns raws c.args.reading) (sym is) reads)),
-      c.step-reading.ensures.less,
-    )
+pub step-requires : goal.step-requires
+step-requires c = subst (λ columns. IsReadingRows (map column_view columns) c.args.reading) (sym c.as_slice.ensures.value) c.requires
 
-pub returns-in-Ok-clause-goes_on : goal.returns-in-Ok-clause-goes_on
-returns-in-Ok-clause-goes_on c = λ raws reads.
-    let schema = schema_view c.args.schema.now in (
+pub returns-in-Ok-On-clause-goes_on : goal.returns-in-Ok-On-clause-goes_on
+returns-in-Ok-On-clause-goes_on c = λ raws reads.
+    let is = ap (map column_view) c.as_slice.ensures.value in
+    let goes = rw c.in-Ok-On.field-0-is at c.in-Ok-On.ensures.goes_on in
+    let next = goes raws (subst (λ (columns : List ColumnOf). ReadsRows columns raws c.args.reading) (sym is) reads) in
+    (subst (λ (columns : List ColumnOf). ReadsRows columns raws c.in-Ok-On.reading) is next.0, next.1)
+
+pub returns-in-Ok-Over-clause-goes_on : goal.returns-in-Ok-Over-clause-goes_on
+returns-in-Ok-Over-clause-goes_on c = λ raws reads.
+    let schema = schema_view c.args.schema.now in
+    let is = ap (map column_view) c.as_slice.ensures.value in
+    let goes = rw c.in-Ok-Over.field-0-is at c.in-Ok-Over.ensures.goes_on in
+    let all = goes raws (subst (λ (columns : List ColumnOf). ReadsRows columns raws c.args.reading) (sym is) reads) in (
       record {
         count = c.start.ensures.rows ∙ reads.count;
         wide = reads.wide;
-        columns = subst (HasColumns 0 schema.columns raws) (sym c.start.ensures.columns) (c.in-Ok.ensures.columns schema.columns raws reads);
+        columns = subst (HasColumns 0 schema.columns raws) (sym c.start.ensures.columns) (subst (λ (columns : List ColumnOf). HasColumns 0 columns raws c.in-Ok-Over.columns.items) is all);
         held = c.start.ensures.held schema.key;
       },
       c.start.ensures.left,
@@ -29,5 +35,8 @@ returns-in-Ok-clause-goes_on c = λ raws reads.
 pub returns-in-Err-clause-fault : goal.returns-in-Err-clause-fault
 returns-in-Err-clause-fault c = λ raws reads.
     let schema = schema_view c.args.schema.now in
+    let is = ap (map column_view) c.as_slice.ensures.value in
     let bad = c.in-Err.bad in
-    rw c.fault_of.ensures.cause (bad_cell-cause schema raws bad.row bad.col bad.fault (c.in-Err.ensures.bad schema.columns raws reads))
+    let wrong = c.in-Err.ensures.bad raws (subst (λ (columns : List ColumnOf). ReadsRows columns raws c.args.reading) (sym is) reads) in
+    rw c.fault_of.ensures.cause
+    (bad_cell-cause schema raws bad.row bad.col bad.fault (subst (λ (columns : List ColumnOf). IsFirstBadIn 0 columns raws bad) is wrong))

@@ -1,18 +1,17 @@
-use Rattle.std.proofs.Common.{◌≤◌, ◌*◌, ◌/◌, length, le_refl, refl, sym, arith}
-use Rattle.std.proofs.lemmas.List.{take_all}
+use Rattle.std.proofs.Common.{drop, length, map, le_refl, refl, sym}
+use Rattle.std.proofs.lemmas.List.{drop_all, take_all}
+use Rattle.cell_types.specs.Column.{column_view}
+use Rattle.table_store.proofs.StepLemmas.{begun_stretch}
 use Rattle.table_store.proofs.stretches.RowsReading.start.Goals as goal
 
 pub returns : goal.returns
 returns c =
     let rows = c.args.file.rows in
-    let count = c.saturating_sub.result / 4096 in
-    let within : count * 4096 ≤ length rows = omega (arith, c.saturating_sub.ensures, c.rows-rows.ensures) in
     record {
       count = c.rows-rows.ensures;
       wide = c.requires.rows;
-      whole = (count, refl);
-      within = within;
       fits = c.requires;
-      left = (length rows, within, sym (take_all (length rows) rows (le_refl (length rows))));
-      read = c.read_from-read.ensures;
+      left = sym (take_all (length rows) rows (le_refl (length rows)));
+      after = drop_all (length rows) rows (le_refl (length rows));
+      stretch = begun_stretch (map column_view c.args.columns.now) c.rows-rows.result rows c.in_ok-start.field-0 (sym c.rows-rows.ensures) c.in_ok-start.ensures;
     }

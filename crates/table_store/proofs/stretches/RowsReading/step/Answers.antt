@@ -1,32 +1,59 @@
-use Rattle.std.proofs.Common.{◌≡◌, ◌-◌, ◌+◌, drop, map, take, sym, ap, subst, ◌∙◌, arith}
+use Rattle.std.proofs.Common.{Err, Global, Ok, drop, inl, map, refl, subst, arith, Some}
 use Rattle.cell_types.specs.Column.{column_view}
-use Rattle.table_store.specs.Stretches.{IsReadFrom}
-use Rattle.table_store.proofs.StepLemmas.{left_count, left_rows, one_block_less}
-use Rattle.table_store.proofs.StretchLemmas.{fits_first, read_on}
+use Rattle.table_store.specs.declared.stretches.RowsReading.{RowsReading}
+use Rattle.table_store.specs.Stretches.{AreReadTogether, IsReadFrom}
+use Rattle.table_store.proofs.StepLemmas.{all_past, may_join, more_read, next_begun, next_less}
+use Rattle.table_store.proofs.stretches.RowsReading.step.Goals.{in-Err, in-Ok}
 use Rattle.table_store.proofs.stretches.RowsReading.step.Goals as goal
 
-pub read_before-read-requires-clause-whole : goal.read_before-read-requires-clause-whole
-read_before-read-requires-clause-whole c =
-    let columns = map column_view c.args.columns.now in
-    let reads = c.requires.reads in
-    let less = one_block_less c.args.self.first c.requires.some reads.1.whole in
-    (1, omega (arith, left_count columns reads.0 c.args.self c.truncate.new.self c.truncate.ensures reads.1, less.2))
+pub step-requires-clause-fits : goal.step-requires-clause-fits
+step-requires-clause-fits c = c.requires.1.fits
 
-pub returns-clause-reads : goal.returns-clause-reads
-returns-clause-reads c = λ rows reads.
+pub step-requires-clause-reads : goal.step-requires-clause-reads
+step-requires-clause-reads c = c.requires.1.stretch
+
+pub join_columns-read-requires : goal.join_columns-read-requires
+join_columns-read-requires c = may_join (map column_view c.args.columns.now) c.requires.0 c.args.self c.in-Over.read c.requires.1 c.in-Over.ensures
+
+pub returns-in-On-clause-goes_on : goal.returns-in-On-clause-goes_on
+returns-in-On-clause-goes_on c = λ rows reads.
+    let on = c.in-On.ensures in
+    (more_read (map column_view c.args.columns.now) rows c.args.self c.in-On.stretch on.0 reads, omega (arith, on.1, on.2, on.0.within))
+
+pub returns-then-first-eq0-clause-goes_on : goal.returns-then-first-eq0-clause-goes_on
+returns-then-first-eq0-clause-goes_on c =
     let columns = map column_view c.args.columns.now in
-    let was = c.args.self.first in
-    let less = one_block_less was c.requires.some reads.whole in
-    let there : was - 4096 + 4096 ≡ was = omega (arith, less.2) in
-    let left = left_rows columns rows c.args.self c.truncate.new.self c.truncate.ensures reads in
-    record {
-      count = reads.count;
-      wide = reads.wide;
-      whole = (less.0, less.1);
-      within = omega (arith, reads.within);
-      fits = fits_first columns c.args.self.file c.truncate.new.self was c.truncate.ensures reads.fits;
-      left = (was, omega arith, left);
-      read = read_on (was - 4096) 4096 columns rows c.truncate.new.self.rows c.args.self.read c.read_before-read.result (left ∙ ap (λ n. take n rows) (sym there))
-          (omega (arith, there, reads.within)) c.read_before-read.ensures
-          (subst (λ n. IsReadFrom n columns (drop n rows) c.args.self.read) (sym there) reads.read);
-    }
+    elim c.match-read.branch [
+      | in-Ok w ↦
+          let joined = subst (AreReadTogether c.in-Over.read c.args.self.after) w.in-Ok.is c.join_columns-read.ensures in
+          rw w.result-is (λ rows reads.
+          subst (λ n. IsReadFrom n columns (drop n rows) (Ok w.in-Ok.columns)) c.if-first-eq0.true
+          (all_past columns rows c.args.self c.in-Over.read (Ok w.in-Ok.columns) c.in-Over.ensures joined reads))
+      | in-Err w ↦ rw w.result-is tt
+    ]
+
+pub returns-then-first-eq0-clause-bad : goal.returns-then-first-eq0-clause-bad
+returns-then-first-eq0-clause-bad c =
+    let columns = map column_view c.args.columns.now in
+    elim c.match-read.branch [
+      | in-Ok w ↦ rw w.result-is tt
+      | in-Err w ↦
+          let joined = subst (AreReadTogether c.in-Over.read c.args.self.after) w.in-Err.is c.join_columns-read.ensures in
+          rw w.result-is (λ rows reads.
+          subst (λ n. IsReadFrom {A = Global} n columns (drop n rows) (Err w.in-Err.bad)) c.if-first-eq0.true
+          (all_past columns rows c.args.self c.in-Over.read (Err w.in-Err.bad) c.in-Over.ensures joined reads))
+    ]
+
+pub returns-in_default-clause-bad : goal.returns-in_default-clause-bad
+returns-in_default-clause-bad c = λ rows reads. inl c.no_memory.ensures
+
+pub returns-clause-goes_on : goal.returns-clause-goes_on
+returns-clause-goes_on c = λ rows reads.
+    let columns = map column_view c.args.columns.now in
+    let self = c.args.self in
+    let read = c.join_columns-read.result in
+    let next : RowsReading = record { file = c.truncate.new.self; rows = self.rows; stretch = c.in-Ok-start.stretch; after = Some read } in (
+      next_begun columns rows self next refl c.truncate.ensures c.in-Ok-start.ensures
+          (reads.stretch.whole, all_past columns rows self c.in-Over.read read c.in-Over.ensures c.join_columns-read.ensures reads) reads,
+      next_less columns rows self next c.truncate.ensures (omega arith) c.in-Ok-start.ensures reads,
+    )

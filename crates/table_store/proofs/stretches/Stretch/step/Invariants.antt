@@ -3,7 +3,7 @@ use Rattle.cell_types.specs.Column.{column_view}
 use Rattle.csv_fields.specs.Values.{rows_in}
 use Rattle.table_store.specs.Parts.{wrong_of}
 use Rattle.column_blocks.specs.ColumnReader.{HaveRead}
-use Rattle.table_store.proofs.stretches.read_from.Given as goal
+use Rattle.table_store.proofs.stretches.Stretch.step.Given as goal
 
 -- nothing is wrong so far, the other rows are left, and the readers have read the rows so far
 abbrev pub invariant-loop-row : goal.invariant-loop-row
