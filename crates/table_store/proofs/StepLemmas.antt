@@ -1,5 +1,5 @@
 -- One step more of the reading of rows.
-use Rattle.std.proofs.Common.{Global, ◌≡◌, ℕ, ◌*◌, ◌-◌, ◌<◌, ◌≤◌, List, [], length, length-drop, drop, take, Result, Vec, ap, sym, subst, le_refl, ◌∙◌, arith}
+use Rattle.std.proofs.Common.{Global, ◌≡◌, ℕ, ◌*◌, ◌-◌, ◌<◌, ◌≤◌, List, [], length, length-drop, drop, take, Result, Vec, ap, sym, subst, ◌∙◌, arith}
 use Rattle.std.proofs.lemmas.List.{length-take, length-take-le, take-take}
 use Rattle.cell_types.specs.Column.{ColumnOf}
 use Rattle.csv_fields.specs.Values.{rows_in}

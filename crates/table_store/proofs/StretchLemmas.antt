@@ -1,6 +1,6 @@
 -- What is read of rows and of those after them.
-use Rattle.std.proofs.Common.{◌≡◌, inl, inr, ℕ, ◌+◌, ◌*◌, ◌-◌, ◌<◌, ◌≤◌, zero, suc, List, [], ◌∷◌, ◌++◌, length, length-drop, drop, take, take-append-drop, get_or, Option, None, Some, IfOk, IfErr, Result, Ok, Err, Vec, ap, sym, subst, ◌∙◌, arith}
-use Rattle.std.proofs.lemmas.List.{append-nil, drop-drop, drop-take, length-map, length-take-le, map-append}
+use Rattle.std.proofs.Common.{◌≡◌, inl, inr, ℕ, ◌+◌, ◌*◌, ◌-◌, ◌≤◌, zero, suc, List, [], ◌∷◌, ◌++◌, length, length-drop, drop, take, take-append-drop, get_or, Option, None, Some, IfOk, IfErr, Result, Ok, Err, Vec, ap, sym, subst, ◌∙◌, arith}
+use Rattle.std.proofs.lemmas.List.{append-nil, drop-drop, drop-take, length-map, map-append}
 use Rattle.std.specs.List.{AllByRecursion}
 use Rattle.std.proofs.lemmas.Option.{same_Some, slice_get_within}
 use Rattle.block_summary.specs.Ranges.{column_of}

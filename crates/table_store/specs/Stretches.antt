@@ -22,7 +22,7 @@ abbrev pub IsReadFrom : {A : Type 0} → ℕ → List ColumnOf → List (List Ra
 IsReadFrom first columns rows (Ok read) = HasColumns first columns rows read.items
 IsReadFrom first columns rows (Err bad) = IsFirstBadIn first columns rows bad
 
--- these are what is read of rows, of those after them, and of both; where none are after them, there is nothing else
+-- these are what is read of rows, of those after them, and of both; if none are after them, there is nothing else
 abbrev pub AreReadTogether : {A : Type 0} → Result (Vec ColumnCells A) BadCell → Option (Result (Vec ColumnCells A) BadCell) → Result (Vec ColumnCells A) BadCell → Type 0
 AreReadTogether front None read = read ≡ front
 AreReadTogether front (Some after) read = (first : ℕ) (columns : List ColumnOf) (rows rest : List (List RawField))
@@ -40,7 +40,7 @@ pub record Join (front after : List ColumnCells) : Type 0 where
   pub each : (col : ℕ) (a b : ColumnCells) → slice_get front col ≡ Some a → slice_get after col ≡ Some b
       → (b.packed_type ≡ a.packed_type) × AreWholeBlocks (length a.cells)
 
--- so may the columns that are read of rows and of those after them, where both have some
+-- so may the columns that are read of rows and of those after them, if both are columns
 abbrev pub AreToJoin : {A : Type 0} → Result (Vec ColumnCells A) BadCell → Option (Result (Vec ColumnCells A) BadCell) → Type 0
 AreToJoin front None = Unit {0}
 AreToJoin front (Some after) = IfOk front (λ before. IfOk after (λ later. Join before.items later.items))
@@ -54,7 +54,7 @@ pub record AreAppended (front after read : List ColumnCells) : Type 0 where
   pub count : length read ≡ length front
   pub each : (col : ℕ) (a b : ColumnCells) → slice_get front col ≡ Some a → slice_get after col ≡ Some b → slice_get read col ≡ Some (joined_cells a b)
 
--- the last rows of a file of so many, which follow whole blocks; none of them is read
+-- the last rows of a file that has `end` rows, which follow whole blocks; none of them is read
 pub record IsBegun (columns : List ColumnOf) (end : ℕ) (stretch : Stretch) : Type 0 where
   pub whole : AreWholeBlocks stretch.first
   pub within : stretch.first ≤ end
@@ -75,7 +75,7 @@ abbrev pub StretchGoesOn : List ColumnOf → List (List RawField) → Stretch �
 StretchGoesOn columns rows old (stretch_steps.On new) = ReadsStretch columns rows new × (new.first ≡ old.first) × (old.row < new.row)
 StretchGoesOn columns rows old (stretch_steps.Over read) = IsReadFrom old.first columns (drop old.first rows) read
 
--- what is read of the rows that follow those of a file; nothing, where none do
+-- what is read of the rows that follow those of a file; nothing if none do
 abbrev pub IsReadPast : {A : Type 0} → ℕ → List ColumnOf → List (List RawField) → Option (Result (Vec ColumnCells A) BadCell) → Type 0
 IsReadPast end columns rest None = rest ≡ []
 IsReadPast end columns rest (Some read) = AreWholeBlocks end × IsReadFrom end columns rest read

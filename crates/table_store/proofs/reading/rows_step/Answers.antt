@@ -2,7 +2,7 @@ use Rattle.std.proofs.Common.{List, sym, subst, map, ap, ◌∙◌}
 use Rattle.cell_types.specs.Column.{column_view, ColumnOf}
 use Rattle.csvw_meta.specs.Schema.{schema_view}
 use Rattle.table_store.specs.Parts.{IsFirstBadIn}
-use Rattle.table_store.specs.Steps.{rows_left, IsReadingRows, ReadsRows, RowsGoOn}
+use Rattle.table_store.specs.Steps.{IsReadingRows, ReadsRows}
 use Rattle.table_store.specs.Stretches.{HasColumns}
 use Rattle.table_store.proofs.LoadingLemmas.{bad_cell-cause}
 use Rattle.table_store.proofs.reading.rows_step.Goals as goal

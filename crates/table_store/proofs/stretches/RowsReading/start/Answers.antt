@@ -1,4 +1,4 @@
-use Rattle.std.proofs.Common.{drop, length, map, le_refl, refl, sym}
+use Rattle.std.proofs.Common.{length, map, le_refl, sym}
 use Rattle.std.proofs.lemmas.List.{drop_all, take_all}
 use Rattle.cell_types.specs.Column.{column_view}
 use Rattle.table_store.proofs.StepLemmas.{begun_stretch}
