@@ -53,7 +53,7 @@ const PLAIN_HELP: &str = "A link in the place of a file is no file of the folder
 const LOG_HELP: &str = "A line for each connection that is opened or ends, and for each reload";
 
 /// What help says of `--connections`.
-const PLACES_HELP: &str = "So many connections at a time, from 1 to 1024; without it 64";
+const PLACES_HELP: &str = "The most connections at a time, from 1 to 1024; without it 64";
 
 /// What help says of `--head-seconds`.
 const HEAD_HELP: &str = "The most seconds from a head's first byte to its last; without it 30";
