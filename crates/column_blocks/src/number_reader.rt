@@ -164,6 +164,9 @@ fn field_number(
     ensures fault { IfErr result (λ e. (e ≡ CellFault.NoMemory)
         ⊎ (value_in (column_view column.now, raw_view raw.entry) ≡ Err e)) }
 {
+    if !raw.quoted {
+        return read_number(alloc, column, packed_type, raw.bytes);
+    }
     let text = raw.text(alloc)?;
     read_number(alloc, column, packed_type, text.as_str())
 }

@@ -72,7 +72,6 @@ impl TextReader {
     {
         if self.buffer.len() == BLOCK_ROWS {
             self.blocks.push(self.buffer.pack(alloc)?)?;
-            self.buffer.clear();
         }
         match text {
             Some(text) => self.buffer.push(text.as_str()),
@@ -116,7 +115,6 @@ impl TextReader {
         if self.buffer.len() == BLOCK_ROWS {
             let block = self.buffer.pack(alloc)?;
             self.blocks.push(block)?;
-            self.buffer.clear();
         }
         self.buffer.push_field(text, quoted, rest, true)
     }
@@ -201,9 +199,13 @@ impl TextReader {
         ensures cells { IfOk result (λ blocks. cells_in blocks.items ≡ self.cells) }
         ensures blocks { IfOk result (λ blocks. AreBlocks BLOCK_ROWS blocks.items) }
     {
-        let mut blocks = self.blocks;
-        if self.buffer.len() > 0 {
-            blocks.push(self.buffer.pack(alloc)?)?;
+        let TextReader {
+            mut blocks,
+            mut buffer,
+            ..
+        } = self;
+        if buffer.len() > 0 {
+            blocks.push(buffer.pack(alloc)?)?;
         }
         Ok(blocks)
     }

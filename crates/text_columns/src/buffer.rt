@@ -1,5 +1,5 @@
 //! The texts of a column, read one after another until they fill a block.
-ghost use Rattle.std.specs.Prelude.{◌≡◌, ◌<◌, ◌==◌, ◌&&◌, [], IfOk, OnOk, OnErr, IsUtf8, length, string_bytes, take};
+ghost use Rattle.std.specs.Prelude.{◌≡◌, ◌<◌, ◌≤◌, ◌==◌, ◌&&◌, [], IfOk, OnOk, OnErr, IsUtf8, length, string_bytes, take};
 ghost use Rattle.cell_types.specs.Value.{null, text as text_cell};
 ghost use Rattle.text_columns.specs.Buffer.{content_cell, field_content, with_text_cell};
 ghost use Rattle.text_columns.specs.Texts.{AreNullMarks};
@@ -10,6 +10,7 @@ use crate::places::places_of;
 use crate::room::make_room;
 use std::alloc::{AllocError, Global};
 use std::marker::Model;
+use std::mem::replace;
 
 /// The texts of a column that are read one after another, until they fill a block.
 #[derive(Drop)]
@@ -42,13 +43,14 @@ fn is_null(empty_is_null: bool, len: usize) -> bool
     empty_is_null && len == 0
 }
 
-/// Returns a copy of bytes that are known to be UTF-8, as a text. They are not checked again.
-fn text_of(alloc: Global, bytes: &[u8]) -> Result<String, AllocError>
-    requires { IsUtf8 bytes.now }
-    ensures { IfOk result (λ text. string_bytes text ≡ bytes.now) }
+/// Returns the first `len` bytes as a text, without a copy, and frees the memory of the others. They are known to be UTF-8.
+fn text_of(mut bytes: Vec<u8>, len: usize) -> String
+    requires { IsUtf8 (take len bytes.items) }
+    ensures { string_bytes result ≡ take len bytes.items }
 {
-    let copy = Vec::from_slice(alloc, bytes)?;
-    Ok(unsafe { String::from_utf8_unchecked(copy) })
+    bytes.truncate(len);
+    bytes.shrink_to_fit();
+    unsafe { String::from_utf8_unchecked(bytes) }
 }
 
 /// Returns the marks of nulls that are kept: none, if no row is null.
@@ -137,23 +139,20 @@ impl TextBuffer {
         Ok(())
     }
 
-    /// Returns the cells, as a block keeps them.
-    pub fn pack(&self, alloc: Global) -> Result<TextBlock, AllocError>
-        ensures { IfOk result (λ block. block ≡ self.now.cells) }
+    /// Returns the cells as a block, which takes over the memory of the texts, and empties the buffer. After an error the cells may be lost.
+    pub fn pack(&mut self, alloc: Global) -> Result<TextBlock, AllocError>
+        ensures block { IfOk result (λ block. block ≡ self.old.cells) }
+        ensures anew { OnOk result (self.new ≡ record self.old { cells = [] }) }
+        ensures err { OnErr result ((self.new.room ≡ self.old.room)
+            × (length self.new.cells ≤ length self.old.cells)) }
     {
         let ends = places_of(alloc, &self.ends.as_slice()[..self.len], self.at)?;
         let nulls = marks_of(alloc, &self.nulls.as_slice()[..self.len])?;
-        let bytes = text_of(alloc, &self.bytes.as_slice()[..self.at])?;
-        let texts = PlainTexts { bytes, ends, nulls };
-        let block = TextBlock::of_texts(alloc, texts)?;
-        Ok(block)
-    }
-
-    /// Begins anew.
-    pub fn clear(&mut self)
-        ensures { self.new ≡ record self.old { cells = [] } }
-    {
+        // The next texts are likely to be as long as these, so their memory rarely has to grow.
+        let next = Vec::with_capacity(alloc, self.at)?;
+        let bytes = text_of(replace(&mut self.bytes, next), self.at);
         self.at = 0;
         self.len = 0;
+        TextBlock::of_texts(alloc, PlainTexts { bytes, ends, nulls })
     }
 }

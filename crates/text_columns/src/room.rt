@@ -5,6 +5,9 @@ ghost use Rattle.text_columns.specs.declared.content.TheConstants.{LANES};
 use crate::content::LANES;
 use std::alloc::AllocError;
 
+/// How many bytes at most are added to those that are needed. A block takes over the memory, so more of it would be written for nothing.
+const SPARE: usize = 0x1_0000;
+
 /// Makes room for `more` bytes from `at` on, and a few more.
 #[inline(always)]
 pub fn make_room(bytes: &mut Vec<u8>, at: usize, more: usize) -> Result<(), AllocError>
@@ -34,5 +37,6 @@ fn grow(bytes: &mut Vec<u8>, at: usize, more: usize) -> Result<(), AllocError>
     let Some(needed) = needed.checked_add(LANES) else {
         return Err(AllocError);
     };
-    bytes.resize(needed.max(bytes.len().saturating_mul(2)), 0)
+    let spare = bytes.len().min(SPARE);
+    bytes.resize(needed.max(bytes.len().saturating_add(spare)), 0)
 }

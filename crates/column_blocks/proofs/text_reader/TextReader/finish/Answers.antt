@@ -12,7 +12,7 @@ returns-clause-blocks c =
     elim c.if-len-gt0.branch [
       | then-len-gt0+in_ok-pack+in_ok-push w ↦
           let packed = w.in_ok-pack.field-0 in
-          let size = ap length w.in_ok-pack.ensures in
+          let size = ap length w.in_ok-pack.ensures.block in
           let items = ap (λ (b : Vec (List CellValue) Global). b.items) w.blocks-is ∙ w.in_ok-push.ensures.items in
           subst (AreBlocks BLOCK_ROWS) (sym items)
           (last_block BLOCK_ROWS c.self.inside.blocks.items packed full (omega (arith, size, c.len.ensures, w.if-len-gt0.true)) (omega (arith, size, c.self.invariant.2)))
