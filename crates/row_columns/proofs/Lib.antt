@@ -1,3 +1,4 @@
+pub mod BlockLemmas
 pub mod NumberLemmas
 pub mod ChunkLemmas
 pub mod PieceLemmas
@@ -5,5 +6,5 @@ pub mod StoreLemmas
 pub mod CodeLemmas
 pub mod PackedLemmas
 pub mod RowLemmas
-pub mod KindLemmas
+pub mod NumberedLaws
 pub mod CellLemmas

@@ -3,7 +3,7 @@ use Rattle.std.proofs.Common.{◌≡◌, ℕ, ◌+◌, ◌*◌, ◌/◌, ◌%◌
 use Rattle.std.specs.Prelude.{IfSome}
 use Rattle.std.specs.Borrow.{Bor}
 use Rattle.std.proofs.lemmas.List.{ext_get_or, get_or-map, get_or_read, length-map}
-use Rattle.std.proofs.lemmas.Option.{same_Some}
+use Rattle.std.proofs.lemmas.Option.{same_Some, IfSome_then}
 use Rattle.block_summary.specs.Ranges.{column_of}
 use Rattle.block_summary.specs.declared.block.TheConstants.{BLOCK_ROWS}
 use Rattle.block_summary.specs.declared.number.PackedType.{PackedType}
@@ -19,16 +19,11 @@ packed_are None type cells e = tt
 packed_are (Some p) None cells e = absurd (cc)
 packed_are (Some p) (Some t) cells e = same_Some p.now cells e
 
-if_some : {X : Type 0} (P Q : X → Type 0) → ((x : X) → P x → Q x) → (o : Option X) → IfSome o P → IfSome o Q
-if_some P Q f None h = tt
-if_some P Q f (Some x) h = f x h
-
 pub packed_column : (piece : List ColumnCells) (col : ℕ) (column : ColumnCells) (packed : Option (Bor (List CellValue))) → col < length piece → column ≡ get_or piece col column
     → option_copied packed ≡ option_map (λ _. column.cells) column.packed_type
     → IfSome packed (λ cells. (row : ℕ) → get_or cells.now row null ≡ get_or (piece_row piece row) col null)
 packed_column piece col column packed inside is e =
-    if_some (λ cells. cells.now ≡ column.cells) (λ cells. (row : ℕ) → get_or cells.now row null ≡ get_or (piece_row piece row) col null)
-    (λ p same row. ap (λ cells. get_or cells row null) same ∙ cell_of_piece piece col row column inside is) packed (packed_are packed column.packed_type column.cells e)
+    IfSome_then packed (packed_are packed column.packed_type column.cells e) (λ p same row. ap (λ cells. get_or cells row null) same ∙ cell_of_piece piece col row column inside is)
 
 -- a row of the last block
 pub row_of_last : (pieces : List (List ColumnCells)) (last : ℕ) (piece : List ColumnCells) (numbers : List ℕ) → last < length pieces → piece ≡ get_or pieces last piece

@@ -1,8 +1,9 @@
 -- The cells of some columns of a block.
 use Rattle.std.proofs.Common.{◌≡◌, ℕ, zero, suc, ◌+◌, ◌<◌, List, [], ◌∷◌, ◌++◌, Option, None, Some, length, take, get_or, option_map, slice_get, refl, sym, ap, ◌∙◌, subst, arith}
-use Rattle.std.specs.List.{All, AllByRecursion}
+use Rattle.std.specs.List.{All, AllByRecursion, AllZip}
 use Rattle.std.proofs.lemmas.List.{get_or-map, get_or_read, take_more}
 use Rattle.std.proofs.lemmas.Option.{same_Some}
+use Rattle.std.proofs.lemmas.Slice.Zip.{all_zipped_more}
 use Rattle.std.proofs.Math.ListN.{get_or-map as get_or-map_default}
 use Rattle.block_summary.specs.Ranges.{column_of}
 use Rattle.block_summary.specs.Reading.{packed_type_of}
@@ -27,28 +28,13 @@ abbrev pub IsShared : TableOf → ℕ → ColumnCells → Type 0
 IsShared block place column = Some column ≡ typed_cells_of block place
 
 abbrev pub AreShared : TableOf → List ℕ → List ColumnCells → Type 0
-AreShared block [] [] = Unit {0}
-AreShared block (place ∷ places) (column ∷ columns) = IsShared block place column × AreShared block places columns
-AreShared _ _ _ = ⊥
-
-shared_push : (block : TableOf) (places : List ℕ) (columns : List ColumnCells) (place : ℕ) (column : ColumnCells) → AreShared block places columns → IsShared block place column
-    → AreShared block (places ++ place ∷ []) (columns ++ column ∷ [])
-shared_push block [] [] place column so is = (is, tt)
-shared_push block [] (c ∷ columns) place column so is = absurd so
-shared_push block (p ∷ places) [] place column so is = absurd so
-shared_push block (p ∷ places) (c ∷ columns) place column so is = (so.0, shared_push block places columns place column so.1 is)
+AreShared block places columns = AllZip (IsShared block) places columns
 
 pub shared_more : (block : TableOf) (places : List ℕ) (i : ℕ) (columns next : List ColumnCells) (column : ColumnCells) → i < length places
     → IsShared block (get_or places i 0) column → next ≡ columns ++ column ∷ [] → AreShared block (take i places) columns → AreShared block (take (i + 1) places) next
 shared_more block places i columns next column h is e so_far =
     subst (AreShared block (take (i + 1) places)) (sym e)
-    (subst (λ ps. AreShared block ps (columns ++ column ∷ [])) (sym (take_more places i 0 h)) (shared_push block (take i places) columns (get_or places i 0) column so_far is))
-
-pub shared_length : (block : TableOf) (places : List ℕ) (columns : List ColumnCells) → AreShared block places columns → length columns ≡ length places
-shared_length block [] [] are = refl
-shared_length block [] (c ∷ columns) are = absurd are
-shared_length block (p ∷ places) [] are = absurd are
-shared_length block (p ∷ places) (c ∷ columns) are = omega (arith, shared_length block places columns are.1)
+    (subst (λ ps. AreShared block ps (columns ++ column ∷ [])) (sym (take_more places i 0 h)) (all_zipped_more (IsShared block) (take i places) columns (get_or places i 0) column so_far is))
 
 -- each has the cells of its column
 typed_of : (o : Option ColumnOf) (cells : List CellValue) (column : ColumnCells) → Some column ≡ option_map (λ (c : ColumnOf). typed_cells c cells) o → column.cells ≡ cells
@@ -141,11 +127,6 @@ number_cell (Some t) cells row alone e = no_text_at cells row alone
 pub text_cells : (type : Option PackedType) (cells texts : List CellValue) → cells_of_texts type cells ≡ Some texts → texts ≡ cells
 text_cells None cells texts e = sym (same_Some cells texts e)
 text_cells (Some t) cells texts e = absurd (cc)
-
-pub alone_at : (piece : List ColumnCells) (col : ℕ) (d : ColumnCells) → col < length piece → HaveTextsAlone piece → HasTextsAlone (get_or piece col d).packed_type (get_or piece col d).cells
-alone_at [] col d h all = absurd (omega (arith, h))
-alone_at (c ∷ piece) zero d h all = all.0
-alone_at (c ∷ piece) (suc col) d h all = alone_at piece col d (omega (arith, h)) all.1
 
 -- ---- a column of a piece
 

@@ -7,6 +7,7 @@ use Rattle.std.proofs.lemmas.List.Elements.{All-from_recursion}
 use Rattle.std.proofs.lemmas.Option.{get_or_from_slice_get, slice_get-get_or}
 use Rattle.block_summary.specs.declared.block.TheConstants.{BLOCK_ROWS}
 use Rattle.block_summary.specs.declared.number.PackedType.{PackedType}
+use Rattle.cell_types.proofs.ListLaws.{AllByRecursion-weaker}
 use Rattle.cell_types.specs.Column.{ColumnOf}
 use Rattle.cell_types.specs.Value.{CellValue, null, value_view}
 use Rattle.cell_types.specs.declared.value.Value.{Value}
@@ -42,13 +43,12 @@ module _ {X : Type 0} where
       ∙ ap (λ k. y ∷ map (λ n. get_or (longer ++ ys) n d) (numbers_from k (length ys))) (sym size)
       ∙ ap (λ zs. y ∷ zs) (map_from longer ys d)
 
-pub all_append : (P : ℕ → Type 0) (a b : List ℕ) → AllByRecursion P a → AllByRecursion P b → AllByRecursion P (a ++ b)
-all_append P [] b pa pb = pb
-all_append P (n ∷ a) b pa pb = (pa.0, all_append P a b pa.1 pb)
+  all_append : (P : X → Type 0) (a b : List X) → AllByRecursion P a → AllByRecursion P b → AllByRecursion P (a ++ b)
+  all_append P [] b pa pb = pb
+  all_append P (x ∷ a) b pa pb = (pa.0, all_append P a b pa.1 pb)
 
 pub all_below : (end more : ℕ) (numbers : List ℕ) → end ≤ more → AllByRecursion (λ n. n < end) numbers → AllByRecursion (λ n. n < more) numbers
-all_below end more [] h all = tt
-all_below end more (n ∷ numbers) h all = (omega (arith, h, all.0), all_below end more numbers h all.1)
+all_below end more numbers h = AllByRecursion-weaker (λ n. n < end) (λ n. n < more) (λ n less. omega (arith, h, less)) numbers
 
 -- ---- numbers of numbers
 
@@ -175,11 +175,6 @@ numbered_wide columns rows (n ∷ numbers) all within =
 
 -- ---- rows are taken
 
-pieces_more : (width : ℕ) (pieces : List (List ColumnCells)) (piece : List ColumnCells) → length piece ≡ width → AllByRecursion (λ (p : List ColumnCells). length p ≡ width) pieces
-    → AllByRecursion (λ (p : List ColumnCells). length p ≡ width) (pieces ++ piece ∷ [])
-pieces_more width [] piece e all = (e, tt)
-pieces_more width (p ∷ pieces) piece e all = (all.0, pieces_more width pieces piece e all.1)
-
 pub blocks_taken : (places numbers made : List ℕ) (types : Vec (Option PackedType) Global) (pieces new : Vec (List ColumnCells) Global) (piece : List ColumnCells) (rows : List (List CellValue))
     → new.items ≡ pieces.items ++ piece ∷ [] → length piece ≡ length types.items → IsStoredWide (Blocks types pieces) → length rows ≤ BLOCK_ROWS
     → ((row : ℕ) → row < length rows → piece_row piece row ≡ values_at places (get_or rows row [])) → All (λ n. n < length rows) numbers
@@ -189,7 +184,7 @@ blocks_taken places numbers made types pieces new piece rows e long wide most is
     let size : length new.items ≡ length pieces.items + 1 = ap (λ (ps : List (List ColumnCells)). length ps) e ∙ length_push pieces.items piece in
     record {
       kinds = refl;
-      wide = subst (AllByRecursion (λ (p : List ColumnCells). length p ≡ length types.items)) (sym e) (pieces_more (length types.items) pieces.items piece long wide);
+      wide = subst (AllByRecursion (λ (p : List ColumnCells). length p ≡ length types.items)) (sym e) (all_append (λ (p : List ColumnCells). length p ≡ length types.items) pieces.items (piece ∷ []) wide (long, tt));
       end = omega (arith, size);
       stay = λ n h. ap (λ (ps : List (List ColumnCells)). numbered_row ps n) e ∙ old_row pieces.items piece n (omega (arith, h));
       within = subst (AllByRecursion (λ n. n < length new.items * BLOCK_ROWS)) (sym made_is)
@@ -199,10 +194,6 @@ blocks_taken places numbers made types pieces new piece rows e long wide most is
           ∙ ap (λ (ps : List (List ColumnCells)). map (numbered_row ps) (map (λ n. length pieces.items * BLOCK_ROWS + n) numbers)) e
           ∙ new_rows pieces.items piece rows places numbers most is within;
     }
-
-all_rows : (P : List CellValue → Type 0) (a b : List (List CellValue)) → AllByRecursion P a → AllByRecursion P b → AllByRecursion P (a ++ b)
-all_rows P [] b pa pb = pb
-all_rows P (r ∷ a) b pa pb = (pa.0, all_rows P a b pa.1 pb)
 
 pub values_taken : (width : ℕ) (rows new : Vec (Vec Value Global) Global) (taken : List (List CellValue)) (made : List ℕ)
     → value_rows new.items ≡ value_rows rows.items ++ taken → AllByRecursion (λ (r : List CellValue). length r ≡ width) taken → IsStoredWide (Values width rows)
@@ -215,7 +206,7 @@ values_taken width rows new taken made e long wide made_is =
     omega (arith, all, many, ap (λ (rs : List (List CellValue)). length rs) e, length-append (value_rows rows.items) taken) in
     record {
       kinds = refl;
-      wide = subst (AllByRecursion (λ (r : List CellValue). length r ≡ width)) (sym e) (all_rows (λ (r : List CellValue). length r ≡ width) (value_rows rows.items) taken wide long);
+      wide = subst (AllByRecursion (λ (r : List CellValue). length r ≡ width)) (sym e) (all_append (λ (r : List CellValue). length r ≡ width) (value_rows rows.items) taken wide long);
       end = omega (arith, size);
       stay = λ n h. ap (λ (rs : List (List CellValue)). get_or rs n none) e ∙ get_or_append_left (value_rows rows.items) taken none n (omega (arith, h, many));
       within = subst (AllByRecursion (λ n. n < length new.items)) (sym made_is) (all_from (length rows.items) (length taken) (length new.items) (omega (arith, size)));

@@ -32,19 +32,6 @@ type_kind (datatype.boolean of_true of_false) = refl
 type_kind (datatype.date form) = refl
 type_kind datatype.decimal = refl
 
--- one column more
-pub kind_more : (columns : List Column) (i : ℕ) (column : Column) (made : List (Option PackedType)) (type : Option PackedType) → i < length columns → column ≡ get_or columns i column
-    → type ≡ packed_type_of (datatype_view column.datatype) → map kind_of_type made ≡ kinds_of (map column_view (take i columns))
-    → map kind_of_type (made ++ type ∷ []) ≡ kinds_of (map column_view (take (i + 1) columns))
-kind_more columns i column made type h at is so_far =
-    let kind : ColumnOf → KindOf = λ (c : ColumnOf). kind_of_datatype c.datatype in
-    let here : kind_of_type type ≡ kind (column_view column) = ap kind_of_type is ∙ type_kind (datatype_view column.datatype) in
-    map_push kind_of_type made type
-    ∙ ap (λ ks. ks ++ kind_of_type type ∷ []) so_far
-    ∙ ap (λ k. kinds_of (map column_view (take i columns)) ++ k ∷ []) here
-    ∙ sym (map_push kind (map column_view (take i columns)) (column_view column))
-    ∙ ap (map kind) (sym (map_more column_view columns i column h ∙ ap (λ c. map column_view (take i columns) ++ column_view c ∷ []) (sym at)))
-
 -- one of those with places more
 pub kind_at_more : (columns : List Column) (places : List ℕ) (i : ℕ) (column : Column) (made : List (Option PackedType)) (type : Option PackedType) → i < length places
     → get_or places i 0 < length columns → column ≡ get_or columns (get_or places i 0) column → type ≡ packed_type_of (datatype_view column.datatype)
@@ -65,18 +52,6 @@ kind_at_more columns places i column made type h within at is so_far =
     both : (cs : List Column) → map (λ (c : Column). kind_of_datatype (datatype_view c.datatype)) cs ≡ kinds_of (map column_view cs)
     both [] = refl
     both (c ∷ cs) = ap (λ ks. kind_of_datatype (datatype_view c.datatype) ∷ ks) (both cs)
-
--- one of the types more
-pub type_more : (types : List (Option PackedType)) (places : List ℕ) (i : ℕ) (made : List (Option PackedType)) (type : Option PackedType) → i < length places
-    → get_or places i 0 < length types → type ≡ get_or types (get_or places i 0) type → map kind_of_type made ≡ kinds_at (take i places) (map kind_of_type types)
-    → map kind_of_type (made ++ type ∷ []) ≡ kinds_at (take (i + 1) places) (map kind_of_type types)
-type_more types places i made type h within at so_far =
-    let kinds = map kind_of_type types in
-    let here : kind_of_type type ≡ get_or kinds (get_or places i 0) any = ap kind_of_type at ∙ sym (get_or-map kind_of_type types (get_or places i 0) type any within) in
-    map_push kind_of_type made type
-    ∙ ap (λ ks. ks ++ kind_of_type type ∷ []) so_far
-    ∙ ap (λ k. kinds_at (take i places) kinds ++ k ∷ []) here
-    ∙ sym (map_more (λ place. get_or kinds place any) places i 0 h)
 
 -- ---- a row
 
@@ -104,6 +79,22 @@ row_long width rows number row wide h at =
     let inside : number < length (value_rows rows) = omega (arith, h, length-map rows (λ (r : Vec Value Global). map value_view r.items)) in
     sym (length-map row.items value_view) ∙ ap (λ (r : List CellValue). length r) (row_of_values rows number row h at)
     ∙ All-from_recursion (λ (r : List CellValue). length r ≡ width) (value_rows rows) wide number none inside
+
+-- a value of a row
+module _ (store : Store) (number col : ℕ) (less : number < end_of store) where
+  pub value_of_piece : (types : Vec (Option PackedType) Global) (pieces : Vec (List ColumnCells) Global) → store ≡ Blocks types pieces → (piece : List ColumnCells)
+      → piece ≡ get_or pieces.items (number / BLOCK_ROWS) piece → get_or (piece_row piece (number % BLOCK_ROWS)) col null ≡ get_or (stored_row store number) col null
+  value_of_piece types pieces is piece at =
+      let here : number < end_of (Blocks types pieces) = subst (λ (s : Store). number < end_of s) is less in
+      ap (λ (r : List CellValue). get_or r col null) (row_of_piece pieces.items number piece (omega (arith, here)) at) ∙ ap (λ (s : Store). get_or (stored_row s number) col null) (sym is)
+
+  pub value_inside : (width : ℕ) (rows : Vec (Vec Value Global) Global) → store ≡ Values width rows → (row : Vec Value Global) → row ≡ get_or rows.items number row → IsStoredWide store
+      → col < length (stored_kinds store) → col < length row.items
+  value_inside width rows is row at wide inside =
+      let all : IsStoredWide (Values width rows) = subst IsStoredWide is wide in
+      let here : number < end_of (Values width rows) = subst (λ (s : Store). number < end_of s) is less in
+      let within : col < length (stored_kinds (Values width rows)) = subst (λ (s : Store). col < length (stored_kinds s)) is inside in
+      omega (arith, within, length-replicate width any, row_long width rows.items number row all here at)
 
 pub some_there : (n : ℕ) → (n == 0) ≡ false → 0 < n
 some_there zero e = absurd (false≢true (sym e))

@@ -25,7 +25,7 @@ use table_store::Block;
 /// Rows of values, one of the kind of each column. Of the rows of a block their numbers are kept, beside the block.
 #[derive(Drop)]
 pub struct Columns {
-    store: Store,
+    pub(crate) store: Store,
     /// A row of blocks has the number of its block and its own in the block, as one.
     pub(crate) numbers: RowNumbers,
 }

@@ -2,6 +2,7 @@
 //! as values. Some of their rows, in any order, and some of their columns are columns again. A caller sees them as a list of rows.
 #![tactic(auto)]
 
+mod block_rows;
 mod cell;
 mod columns;
 mod piece;
@@ -12,6 +13,7 @@ mod turns;
 mod value_rows;
 mod values;
 
+pub use block_rows::{BlockRows, ColumnPart};
 pub use cell::Cell;
 pub use columns::Columns;
 pub use row_ref::RowRef;

@@ -5,7 +5,7 @@ ghost use Rattle.cell_types.specs.Value.{null, value_view};
 ghost use Rattle.row_columns.specs.Cell.{cell_view};
 ghost use Rattle.row_columns.specs.Codes.{HaveCodesAt};
 ghost use Rattle.row_columns.specs.Picked.{values_at};
-ghost use Rattle.row_columns.specs.Piece.{piece_at, piece_row};
+ghost use Rattle.row_columns.specs.Piece.{no_cells, piece_at, piece_row};
 ghost use Rattle.row_columns.specs.Text.{text_of_cell};
 
 use crate::cell::{Cell, cell_in};
@@ -94,6 +94,14 @@ impl Piece {
             ≡ slice_index_or (piece_row self.now row) col null) }
     {
         self.columns[col].packed()
+    }
+
+    /// Returns the cells of a column.
+    pub(crate) fn cells(&self, col: usize) -> &BlockCells
+        requires { col < length self.now }
+        ensures { result.now ≡ slice_index_or self.now col no_cells }
+    {
+        &self.columns[col]
     }
 
     /// Returns the codes of all rows by their values in a column, if it has codes.

@@ -2,15 +2,13 @@ use Rattle.std.proofs.Common.{◌≡◌, ◌<◌, ◌++◌, ℕ, List, length, m
 use Rattle.std.specs.Prelude.{OnOk}
 use Rattle.std.specs.List.{All}
 use Rattle.std.proofs.lemmas.List.{length-map}
-use Rattle.std.proofs.lemmas.List.Elements.{All-from_recursion}
 use Rattle.cell_types.specs.Column.{column_view, ColumnOf}
 use Rattle.cell_types.specs.Value.{CellValue}
 use Rattle.table_store.specs.Schema.{SchemaOf}
 use Rattle.row_columns.specs.Kinds.{kind_of_datatype, kinds_of}
 use Rattle.row_columns.specs.Numbers.{numbers_from}
 use Rattle.row_columns.specs.Picked.{kinds_at, numbered, values_at}
-use Rattle.row_columns.proofs.KindLemmas.{kinds_whole}
-use Rattle.row_columns.proofs.NumberLemmas.{all_from}
+use Rattle.row_columns.proofs.NumberedLaws.{all_within, kinds_whole}
 use Rattle.row_columns.proofs.RowLemmas.{numbered_wide, table_rows_picked}
 use Rattle.row_columns.proofs.columns.Columns.take.Goals as goal
 
@@ -30,7 +28,7 @@ take_places-requires-clause-places c =
     let count : c.len.result ≡ width =
     omega (arith, c.len.ensures, length-map c.schema.result.now.columns.items column_view, ap (λ (s : SchemaOf). length s.columns) c.schema.ensures, c.schema.result.now.columns.ok.0) in
     let places : c.as_slice.result.now ≡ numbers_from 0 width = c.as_slice.ensures.value ∙ c.in-Ok.ensures ∙ c.all.ensures ∙ ap (numbers_from 0) count in
-    subst (All (λ place. place < width)) (sym places) (All-from_recursion (λ place. place < width) (numbers_from 0 width) (all_from 0 width width (omega arith)))
+    subst (All (λ place. place < width)) (sym places) (all_within width)
 
 pub returns-in-Ok-clause-rows : goal.returns-in-Ok-clause-rows
 returns-in-Ok-clause-rows c =

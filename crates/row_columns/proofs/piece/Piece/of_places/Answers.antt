@@ -1,6 +1,7 @@
 use Rattle.std.proofs.Common.{◌≤◌, ℕ, List, length, subst, arith}
 use Rattle.std.proofs.lemmas.List.{take_all}
-use Rattle.row_columns.proofs.PieceLemmas.{shared_alone, shared_length, shared_more, shared_row, AreShared}
+use Rattle.std.proofs.lemmas.Slice.Zip.{AllZip-long}
+use Rattle.row_columns.proofs.PieceLemmas.{shared_alone, shared_more, shared_row, AreShared, IsShared}
 use Rattle.row_columns.proofs.piece.Piece.of_places.Goals as goal
 
 pub loop-place-preserved : goal.loop-place-preserved
@@ -20,7 +21,7 @@ returns-clause-wide c =
     let places = c.args.places.now in
     let end : length places ≤ c.loop-place.place-index = omega (arith, c.loop-place-test.false) in
     let whole = subst (λ (ps : List ℕ). AreShared c.args.block.now ps c.loop-place.columns.items) (take_all c.loop-place.place-index places end) c.loop-place.invariant in
-    shared_length c.args.block.now places c.loop-place.columns.items whole
+    AllZip-long (IsShared c.args.block.now) places c.loop-place.columns.items whole
 
 pub returns-clause-rows : goal.returns-clause-rows
 returns-clause-rows c = λ row within.
