@@ -2,9 +2,8 @@
 use Rattle.std.proofs.Common.{◌≡◌, ℕ, zero, suc, ◌<◌, Bool, true, false, cond, Option, Some, None, List, [], ◌∷◌, ◌++◌, Vec, Global, length, map, get_or, refl, sym, ap, subst, ◌∙◌, arith}
 use Rattle.std.specs.Prelude.{IfSome, slice_set}
 use Rattle.std.specs.List.{All, AllByRecursion, AllZip, IsDistinct, list_any}
-use Rattle.std.proofs.lemmas.Bool.{false≢true}
 use Rattle.std.proofs.lemmas.List.{get_or_append_left, length-append, length-map}
-use Rattle.std.proofs.lemmas.List.Elements.{All-from_recursion, filter-append}
+use Rattle.std.proofs.lemmas.List.Elements.{All-from_recursion, filter-append, recursion_from_All}
 use Rattle.std.proofs.lemmas.List.Folds.{list_any_at}
 use Rattle.cell_types.specs.Value.{CellValue, value_view}
 use Rattle.insertion_map.specs.Places.{insert_key}
@@ -18,6 +17,7 @@ use Rattle.aggregate_rows.specs.Tallies.{FitsAll}
 use Rattle.aggregate_rows.proofs.FitLemmas.{all_fit_kept}
 use Rattle.aggregate_rows.proofs.GatheredLemmas.{AreOneType, OfPart, views}
 use Rattle.aggregate_rows.proofs.GroupLemmas.{same_self}
+use Rattle.aggregate_rows.proofs.JoinLemmas.{is_theirs}
 use Rattle.aggregate_rows.proofs.ListLemmas.{zip_long}
 use Rattle.aggregate_rows.proofs.PartLemmas.{part_rows}
 
@@ -40,10 +40,6 @@ zip_each P Q f [] (y ∷ ys) z = absurd z
 zip_each P Q f (x ∷ xs) [] z = absurd z
 zip_each P Q f (x ∷ xs) (y ∷ ys) z = (f x y z.0, zip_each P Q f xs ys z.1)
 
-all_each : {X : Type 0} (P : X → Type 0) → ((x : X) → P x) → (xs : List X) → AllByRecursion P xs
-all_each P f [] = tt
-all_each P f (x ∷ xs) = (f x, all_each P f xs)
-
 -- ---- the rows of each group join
 
 module _ (places : List ℕ) (aggregates : List Aggregate) (some more : List (List CellValue)) (mid : Groups) (begun : AreBegun places aggregates mid some more) where
@@ -56,9 +52,9 @@ module _ (places : List ℕ) (aggregates : List Aggregate) (some more : List (Li
 
   pub parts_fit : (width : ℕ) → AllByRecursion (FitsAll width (some ++ more)) aggregates
       → AllByRecursion (λ key. AllByRecursion (FitsAll width (rows_of_group places some key ++ rows_of_group places more key)) aggregates) (keys_held mid)
-  parts_fit width fits = all_each (λ key. AllByRecursion (FitsAll width (rows_of_group places some key ++ rows_of_group places more key)) aggregates)
-      (λ key. subst (λ rs. AllByRecursion (FitsAll width rs) aggregates) (in_two key) (all_fit_kept width (λ r. same_values key (values_at places r)) (some ++ more) aggregates fits))
-      (keys_held mid)
+  parts_fit width fits = recursion_from_All (λ key. AllByRecursion (FitsAll width (rows_of_group places some key ++ rows_of_group places more key)) aggregates) (keys_held mid)
+      (λ k d h. let key = get_or (keys_held mid) k d in
+      subst (λ rs. AllByRecursion (FitsAll width rs) aggregates) (in_two key) (all_fit_kept width (λ r. same_values key (values_at places r)) (some ++ more) aggregates fits))
 
   pub parts_whole : (new : Groups) → new.keys.keys ≡ mid.keys.keys → HaveJoined aggregates (λ key. rows_of_group places some key ++ rows_of_group places more key) (keys_held mid) new
       → HasGroups (Some places) aggregates new (some ++ more)
@@ -88,13 +84,7 @@ module _ (old new : Groups) (key : List CellValue) (came : keys_held new ≡ ins
 -- a key whose group is known is one of theirs
 pub is_among : (equal : AreOneType) (aggregates : List Aggregate) (groups : Groups) (key : List CellValue) (g : ℕ) → IsGroupOf groups key g → HasGroupMore aggregates groups groups key
 is_among equal aggregates groups key g is =
-    let there : list_any (same_values key) (keys_held groups) ≡ true =
-    list_any_at (same_values key) (keys_held groups) g [] is.0 (subst (λ k. same_values key k ≡ true) (sym is.1) (same_self equal [] key)) in
-    record {
-      keys = sym (ap (λ b. cond b (keys_held groups) (keys_held groups ++ key ∷ [])) there);
-      stay = λ _. refl;
-      begins = λ none. absurd (false≢true (sym none ∙ there));
-    }
+    is_theirs aggregates groups key (list_any_at (same_values key) (keys_held groups) g [] is.0 (subst (λ k. same_values key k ≡ true) (sym is.1) (same_self equal [] key)))
 
 -- ---- what is known by codes
 

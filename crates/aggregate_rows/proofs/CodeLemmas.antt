@@ -1,5 +1,5 @@
 -- Codes of rows by their values in some columns.
-use Rattle.std.proofs.Common.{◌≡◌, ◌+◌, ◌*◌, ◌/◌, ◌%◌, ◌++◌, ◌<◌, ◌≤◌, ◌^◌, ℕ, zero, suc, List, [], ◌∷◌, Option, None, Some, get_or, length, replicate, take, refl, sym, ap, subst, ◌∙◌, arith, mul-le-mul_right}
+use Rattle.std.proofs.Common.{◌≡◌, ◌+◌, ◌*◌, ◌/◌, ◌%◌, ◌++◌, ◌<◌, ◌≤◌, ℕ, zero, suc, List, [], ◌∷◌, Option, None, Some, get_or, length, replicate, take, refl, sym, ap, subst, ◌∙◌, arith, mul-le-mul_right}
 use Rattle.std.specs.Prelude.{Err, IfOk, IfSome, Ok, Result, ℤ, pos, ◌+ℤ◌, ◌-ℤ◌, ◌≤ℤ◌, unsigned_abs}
 use Rattle.std.specs.List.{All}
 use Rattle.std.specs.declared.alloc.AllocError.{AllocError}
@@ -17,7 +17,7 @@ use Rattle.row_columns.specs.Codes.{HaveCodes}
 use Rattle.row_columns.specs.Picked.{numbered}
 use Rattle.aggregate_rows.specs.declared.codes.Codes.{Codes}
 use Rattle.aggregate_rows.specs.declared.codes.TheConstants.{MOST_CODES}
-use Rattle.aggregate_rows.specs.Codes.{joined_values, value_alone, AreFewCodes, HaveCodesOf, HaveKeyCodes, HaveNumberCodes, HaveTextCodes, MayJoinCodes}
+use Rattle.aggregate_rows.specs.Codes.{joined_values, value_alone, AreFewCodes, HaveCodesOf, HaveKeyCodes, HaveNumberCodes, HaveTextCodes}
 use Rattle.aggregate_rows.proofs.ListLemmas.{zip_at, zip_long}
 
 -- a row by its number
@@ -69,11 +69,6 @@ code-below : (a b m k : ℕ) → a < m → b < k → a * k + b < m * k
 code-below a b m k h g =
     let product : (a + 1) * k ≤ m * k = mul-le-mul_right k (omega (arith, h)) in
     omega (arith, g, product)
-
-pub codes-fit : (left right : Codes) (may : MayJoinCodes left right) (i : ℕ) → left.count * right.count ≤ MOST_CODES → i < length left.codes.items → get_or left.codes.items i 0 * right.count + get_or right.codes.items i 0 < 2 ^ 16
-codes-fit left right may i few h =
-    let inside : i < may.rows = omega (arith, h, may.left_are.long) in
-    omega (arith, code-below (get_or left.codes.items i 0) (get_or right.codes.items i 0) left.count right.count (may.left_are.below i inside) (may.right_are.below i inside), few)
 
 pub joined-codes : (left right made : Codes) (f g : List CellValue → List CellValue) (rows : List (List CellValue)) → HaveCodesOf f rows left → HaveCodesOf g rows right
     → made.count ≡ left.count * right.count → made.count ≤ MOST_CODES → length made.codes.items ≡ length left.codes.items

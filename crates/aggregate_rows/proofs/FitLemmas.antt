@@ -15,8 +15,6 @@ use Rattle.cell_types.proofs.ListLaws.{AllByRecursion-weaker, length-filter-le}
 use Rattle.aggregate_rows.specs.Tallies.{FitsAll}
 use Rattle.aggregate_rows.proofs.ListLemmas.{all_behind, all_front}
 
--- ---- columns of any take all values
-
 -- ---- sums of some of the rows fit
 
 module _ {X : Type 0} (f : X → Option ℤ) (keeps : X → Bool) (P : ℤ → Type 0) where
@@ -49,15 +47,6 @@ fewer_fit f xs zs less some fit =
       small = omega arith;
     }
 
-kept_fit : {X : Type 0} (f : X → Option ℤ) (keeps : X → Bool) (xs : List X) → AreSummable (filter_map f xs) (length xs)
-    → AreSummable (filter_map f (filter keeps xs)) (length (filter keeps xs))
-kept_fit f keeps xs = fewer_fit f xs (filter keeps xs) (length-filter-le keeps xs) (λ P. all_kept f keeps P xs)
-
-front_fit : {X : Type 0} (f : X → Option ℤ) (xs ys : List X) → AreSummable (filter_map f (xs ++ ys)) (length (xs ++ ys)) → AreSummable (filter_map f xs) (length xs)
-front_fit f xs ys =
-    fewer_fit f (xs ++ ys) xs (let e = length-append xs ys in omega arith)
-    (λ P a. all_front P (filter_map f xs) (filter_map f ys) (subst (AllByRecursion P) (filter_map-append f xs ys) a))
-
 pub rest_fit : {X : Type 0} (f : X → Option ℤ) (xs ys : List X) → AreSummable (filter_map f (xs ++ ys)) (length (xs ++ ys)) → AreSummable (filter_map f ys) (length ys)
 rest_fit f xs ys =
     fewer_fit f (xs ++ ys) ys (let e = length-append xs ys in omega arith)
@@ -65,39 +54,23 @@ rest_fit f xs ys =
 
 -- ---- so can each aggregate be
 
-module _ (width : ℕ) where
-  pub fits_kept : (keeps : List CellValue → Bool) (rows : List (List CellValue)) (a : Aggregate) → FitsAll width rows a → FitsAll width (filter keeps rows) a
-  fits_kept keeps rows Count fit = let less = length-filter-le keeps rows in omega (arith, fit, less)
-  fits_kept keeps rows (SumOfIntegers place) fit = (fit.0, kept_fit (λ row. cell integer_in row place) keeps rows fit.1)
-  fits_kept keeps rows (SumOfDecimals place) fit = (fit.0, kept_fit (λ row. cell decimal_in row place) keeps rows fit.1)
-  fits_kept keeps rows (Min place) fit = fit
-  fits_kept keeps rows (Max place) fit = fit
-  fits_kept keeps rows (CountDistinct place) fit = fit
+module _ (width : ℕ) (rows fewer : List (List CellValue)) (less : length fewer ≤ length rows)
+    (some : (f : List CellValue → Option ℤ) (P : ℤ → Type 0) → AllByRecursion P (filter_map f rows) → AllByRecursion P (filter_map f fewer)) where
+  fits_fewer : (a : Aggregate) → FitsAll width rows a → FitsAll width fewer a
+  fits_fewer Count fit = omega (arith, fit, less)
+  fits_fewer (SumOfIntegers place) fit = (fit.0, fewer_fit (λ row. cell integer_in row place) rows fewer less (some (λ row. cell integer_in row place)) fit.1)
+  fits_fewer (SumOfDecimals place) fit = (fit.0, fewer_fit (λ row. cell decimal_in row place) rows fewer less (some (λ row. cell decimal_in row place)) fit.1)
+  fits_fewer (Min place) fit = fit
+  fits_fewer (Max place) fit = fit
+  fits_fewer (CountDistinct place) fit = fit
 
-  pub fits_front : (rows more : List (List CellValue)) (a : Aggregate) → FitsAll width (rows ++ more) a → FitsAll width rows a
-  fits_front rows more Count fit = let long = length-append rows more in omega (arith, fit, long)
-  fits_front rows more (SumOfIntegers place) fit = (fit.0, front_fit (λ row. cell integer_in row place) rows more fit.1)
-  fits_front rows more (SumOfDecimals place) fit = (fit.0, front_fit (λ row. cell decimal_in row place) rows more fit.1)
-  fits_front rows more (Min place) fit = fit
-  fits_front rows more (Max place) fit = fit
-  fits_front rows more (CountDistinct place) fit = fit
+pub all_fit_kept : (width : ℕ) (keeps : List CellValue → Bool) (rows : List (List CellValue)) (aggregates : List Aggregate) → AllByRecursion (FitsAll width rows) aggregates
+    → AllByRecursion (FitsAll width (filter keeps rows)) aggregates
+all_fit_kept width keeps rows = AllByRecursion-weaker (FitsAll width rows) (FitsAll width (filter keeps rows))
+    (fits_fewer width rows (filter keeps rows) (length-filter-le keeps rows) (λ f P. all_kept f keeps P rows))
 
-  pub all_fit_kept : (keeps : List CellValue → Bool) (rows : List (List CellValue)) (aggregates : List Aggregate) → AllByRecursion (FitsAll width rows) aggregates
-      → AllByRecursion (FitsAll width (filter keeps rows)) aggregates
-  all_fit_kept keeps rows aggregates = AllByRecursion-weaker (FitsAll width rows) (FitsAll width (filter keeps rows)) (fits_kept keeps rows) aggregates
-
-  pub all_fit_front : (rows more : List (List CellValue)) (aggregates : List Aggregate) → AllByRecursion (FitsAll width (rows ++ more)) aggregates
-      → AllByRecursion (FitsAll width rows) aggregates
-  all_fit_front rows more aggregates = AllByRecursion-weaker (FitsAll width (rows ++ more)) (FitsAll width rows) (fits_front rows more) aggregates
-
-  fits_rest : (rows more : List (List CellValue)) (a : Aggregate) → FitsAll width (rows ++ more) a → FitsAll width more a
-  fits_rest rows more Count fit = let long = length-append rows more in omega (arith, fit, long)
-  fits_rest rows more (SumOfIntegers place) fit = (fit.0, rest_fit (λ row. cell integer_in row place) rows more fit.1)
-  fits_rest rows more (SumOfDecimals place) fit = (fit.0, rest_fit (λ row. cell decimal_in row place) rows more fit.1)
-  fits_rest rows more (Min place) fit = fit
-  fits_rest rows more (Max place) fit = fit
-  fits_rest rows more (CountDistinct place) fit = fit
-
-  pub all_fit_rest : (rows more : List (List CellValue)) (aggregates : List Aggregate) → AllByRecursion (FitsAll width (rows ++ more)) aggregates
-      → AllByRecursion (FitsAll width more) aggregates
-  all_fit_rest rows more aggregates = AllByRecursion-weaker (FitsAll width (rows ++ more)) (FitsAll width more) (fits_rest rows more) aggregates
+pub all_fit_front : (width : ℕ) (rows more : List (List CellValue)) (aggregates : List Aggregate) → AllByRecursion (FitsAll width (rows ++ more)) aggregates
+    → AllByRecursion (FitsAll width rows) aggregates
+all_fit_front width rows more = AllByRecursion-weaker (FitsAll width (rows ++ more)) (FitsAll width rows)
+    (fits_fewer width (rows ++ more) rows (let e = length-append rows more in omega arith)
+    (λ f P a. all_front P (filter_map f rows) (filter_map f more) (subst (AllByRecursion P) (filter_map-append f rows more) a)))

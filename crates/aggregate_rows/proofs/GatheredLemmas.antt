@@ -11,7 +11,6 @@ use Rattle.odata_query.specs.Aggregate.{NamedAggregateOf}
 use Rattle.odata_query.specs.FirstSeen.{first_seen}
 use Rattle.odata_query.specs.Query.{optional_numbers}
 use Rattle.query_meaning.specs.Apply.{computed_value, computed_values, group_values, rows_of_group, is_value, same_values, value_at, values_at, present_values}
-use Rattle.row_columns.specs.Store.{value_rows}
 use Rattle.row_columns.specs.Picked.{numbered}
 use Rattle.aggregate_rows.specs.declared.aggregator.Aggregator.{Aggregator}
 use Rattle.aggregate_rows.specs.declared.groups.Groups.{Groups}
@@ -20,7 +19,7 @@ use Rattle.aggregate_rows.specs.Gathered.{gathered_rows, key_width, group_keys, 
 use Rattle.aggregate_rows.specs.Tallies.{AreAccumulators, FitsAll}
 use Rattle.aggregate_rows.proofs.FitLemmas.{all_fit_front}
 use Rattle.aggregate_rows.proofs.GroupLemmas.{joins}
-use Rattle.aggregate_rows.proofs.ListLemmas.{all_at, zip_at, zip_long}
+use Rattle.aggregate_rows.proofs.ListLemmas.{zip_at, zip_long}
 use Rattle.aggregate_rows.proofs.ValueLemmas.{values_append}
 
 -- the accumulators of a group
@@ -137,24 +136,17 @@ module _ (places : Option (List ℕ)) (aggregates : List Aggregate) (groups : Gr
       ∙ ap (λ r. take i (rows_gathered places aggregates rows) ++ r ∷ [])
       (get_or-map (λ key. key ++ map (computed_value (part_of places rows key)) aggregates) (group_keys places rows) i [] [] (omega arith) ∙ sym is)
 
-  pub row_wide : (i width : ℕ) (row : List CellValue) → i < length groups.accumulators.items → key_width places ≡ width
-      → row ≡ get_or (group_keys places rows) i [] ++ map (computed_value (part_of places rows (get_or (group_keys places rows) i []))) aggregates
-      → length row ≡ width + length aggregates
-  row_wide i width row h wide is =
-      let many = as_many in
-      let key = get_or (group_keys places rows) i [] in
+  -- each row has as many columns
+  wide : (n : ℕ) (keys : List (List CellValue)) → AllByRecursion (λ v. length v ≡ n) keys
+      → AllByRecursion (λ r. length r ≡ n + length aggregates) (map (λ key. key ++ map (computed_value (part_of places rows key)) aggregates) keys)
+  wide n [] a = tt
+  wide n (key ∷ keys) a =
       let computed = map (computed_value (part_of places rows key)) aggregates in
-      ap length is ∙ length-append key computed
-      ∙ ap (λ n. n + length computed) (all_at (λ v. length v ≡ key_width places) (group_keys places rows) i [] (keys_wide places rows) (omega arith) ∙ wide)
-      ∙ ap (λ n. width + n) (length-map aggregates (computed_value (part_of places rows key)))
+      let first = a.0 in
+      (omega (arith, first, length-append key computed, length-map aggregates (computed_value (part_of places rows key))), wide n keys a.1)
 
-pub wide_push : {next : List (Vec Value Global)} (rows : List (Vec Value Global)) (row : Vec Value Global) (width : ℕ) → next ≡ rows ++ row ∷ [] → length (map value_view row.items) ≡ width
-    → AllByRecursion (λ (r : List CellValue). length r ≡ width) (value_rows rows) → AllByRecursion (λ (r : List CellValue). length r ≡ width) (value_rows next)
-wide_push rows row width e is so_far = subst (λ rs. AllByRecursion (λ (r : List CellValue). length r ≡ width) (value_rows rs)) (sym e) (more rows so_far)
-  where
-    more : (rs : List (Vec Value Global)) → AllByRecursion (λ (r : List CellValue). length r ≡ width) (value_rows rs) → AllByRecursion (λ (r : List CellValue). length r ≡ width) (value_rows (rs ++ row ∷ []))
-    more [] h = (is, tt)
-    more (r ∷ rs) h = (h.0, more rs h.1)
+  pub all_wide : AllByRecursion (λ r. length r ≡ key_width places + length aggregates) (rows_gathered places aggregates rows)
+  all_wide = wide (key_width places) (group_keys places rows) (keys_wide places rows)
 
 -- ---- rows join
 

@@ -3,26 +3,20 @@ use Rattle.std.proofs.Common.{◌≡◌, ◌↔◌, ℕ, zero, suc, ◌<◌, Boo
 use Rattle.std.specs.Prelude.{slice_set}
 use Rattle.std.specs.Cmp.Lexicographic.{pointwise_decides}
 use Rattle.std.specs.List.{AllByRecursion, AllZip, IsDistinct, list_any}
-use Rattle.std.proofs.lemmas.Bool.{cases_Bool, false≢true, or_parts}
+use Rattle.std.proofs.lemmas.Bool.{cases_Bool, or_parts}
 use Rattle.std.proofs.lemmas.List.{append-nil, map-append}
-use Rattle.std.proofs.lemmas.List.Elements.{filter-append}
+use Rattle.std.proofs.lemmas.List.Elements.{All-from_recursion, filter-append}
 use Rattle.insertion_map.specs.Places.{insert_key}
 use Rattle.cell_types.specs.Value.{CellValue, value_eq}
 use Rattle.odata_query.specs.FirstSeen.{first_seen}
 use Rattle.query_meaning.specs.Apply.{group_values, rows_of_group, same_values, values_at}
-use Rattle.aggregate_rows.proofs.ListLemmas.{all_at}
+use Rattle.aggregate_rows.proofs.ListLemmas.{turned}
 
 module _ {X : Type 0} (eq : X → X → Bool) (is : (a b : X) → eq a b ≡ true → a ≡ b) (self : (a : X) → eq a a ≡ true) where
-  turned : (a b : X) → eq a b ≡ false → eq b a ≡ false
-  turned a b e = elim (cases_Bool (eq b a)) [
-    | inl t ↦ (let same : b ≡ a = is b a t in absurd (false≢true (sym e ∙ subst (λ z. eq z b ≡ true) same (self b))))
-    | inr f ↦ f
-  ]
-
   any_filter : (x y : X) (zs : List X) → eq x y ≡ false → list_any (eq y) (filter (λ z. not (eq x z)) zs) ≡ list_any (eq y) zs
   any_filter x y [] e = refl
   any_filter x y (z ∷ zs) e = elim (cases_Bool (eq x z)) [
-    | inl t ↦ (let other : eq y z ≡ false = turned z y (subst (λ w. eq w y ≡ false) (is x z t) e) in rw (t, other) (any_filter x y zs e))
+    | inl t ↦ (let other : eq y z ≡ false = turned eq is self z y (subst (λ w. eq w y ≡ false) (is x z t) e) in rw (t, other) (any_filter x y zs e))
     | inr f ↦ rw (f, any_filter x y zs e) refl
   ]
 
@@ -52,7 +46,7 @@ module _ {X : Type 0} (eq : X → X → Bool) (is : (a b : X) → eq a b ≡ tru
         | inl t ↦ (let same : x ≡ y = is x y t in let back : eq y x ≡ true = subst (λ z. eq y z ≡ true) (sym same) (self y) in
             ap (λ zs. x ∷ zs) (past x y b seen t) ∙ sym (ap (λ c. cond (c || list_any (eq y) others) (x ∷ others) ((x ∷ others) ++ y ∷ [])) back))
         | inr f ↦ ap (λ zs. x ∷ zs) (kept x y b seen f) ∙ cons_cond x y b others
-            ∙ sym (ap (λ c. cond (c || list_any (eq y) others) (x ∷ others) ((x ∷ others) ++ y ∷ [])) (turned x y f)
+            ∙ sym (ap (λ c. cond (c || list_any (eq y) others) (x ∷ others) ((x ∷ others) ++ y ∷ [])) (turned eq is self x y f)
             ∙ ap (λ c. cond c (x ∷ others) ((x ∷ others) ++ y ∷ [])) (any_filter x y seen f))
       ]
 
@@ -62,7 +56,7 @@ module _ {X : Type 0} (eq : X → X → Bool) (is : (a b : X) → eq a b ≡ tru
   unseen (x ∷ xs) y e =
       let parts = or_parts (eq y x) (list_any (eq y) (filter (λ z. not (eq x z)) (first_seen eq xs))) e in
       let head : eq y x ≡ false = parts.0 in
-      let rest : list_any (eq y) xs ≡ false = unseen xs y (sym (any_filter x y (first_seen eq xs) (turned y x head)) ∙ parts.1) in
+      let rest : list_any (eq y) xs ≡ false = unseen xs y (sym (any_filter x y (first_seen eq xs) (turned eq is self y x head)) ∙ parts.1) in
       rw (head, rest) refl
 
 module _ (equal : (a b : CellValue) → IsTrue (value_eq a b) ↔ (a ≡ b)) (places : List ℕ) where
@@ -124,7 +118,7 @@ module _ (equal : (a b : CellValue) → IsTrue (value_eq a b) ↔ (a ≡ b)) (pl
             subst (λ ps. AllZip R ps ts) (all_stay vs (others v vs is d.0)) z.1,
           )
       found_zip (v ∷ vs) (u ∷ ts) (suc g) t z d h is r =
-          let other : same_values v (values_at places row) ≡ false = subst (λ w. same_values v w ≡ false) is (all_at (λ w. same_values v w ≡ false) vs g [] d.0 (omega arith)) in
+          let other : same_values v (values_at places row) ≡ false = subst (λ w. same_values v w ≡ false) is (All-from_recursion (λ w. same_values v w ≡ false) vs d.0 g [] (omega arith)) in
           (subst (λ p. R p u) (sym (stays v other)) z.0, found_zip vs ts g t z.1 d.1 (omega arith) is r)
 
     pub more_values : group_values places (some ++ row ∷ []) ≡ insert_key same_values (group_values places some) (values_at places row)

@@ -7,6 +7,7 @@ use Rattle.std.proofs.lemmas.List.Elements.{filter-append}
 use Rattle.std.proofs.lemmas.List.Folds.{list_any_at}
 use Rattle.std.proofs.lemmas.List.Quantifiers.{position-Some}
 use Rattle.std.proofs.lemmas.Bool.{cases_Bool, false≢true}
+use Rattle.std.proofs.lemmas.Slice.Zip.{all_zipped_more, AllZip-long}
 use Rattle.cell_types.specs.Value.{CellValue, value_view}
 use Rattle.cell_types.specs.declared.value.Value.{Value}
 use Rattle.odata_query.specs.declared.aggregate.Aggregate.{Aggregate}
@@ -16,10 +17,10 @@ use Rattle.aggregate_rows.specs.declared.accumulator.Accumulator.{Accumulator}
 use Rattle.insertion_map.specs.Places.{insert_key}
 use Rattle.aggregate_rows.specs.Gathered.{keys_held, HasGroupMore, HasGroups, IsGroupOf}
 use Rattle.aggregate_rows.specs.Parts.{AreBegun}
-use Rattle.aggregate_rows.specs.Tallies.{AreAccumulators, FitsAll, MayTallyEach}
+use Rattle.aggregate_rows.specs.Tallies.{AreAccumulators, FitsAll, MayTallyEach, TalliesEach}
 use Rattle.aggregate_rows.proofs.FitLemmas.{all_fit_kept}
 use Rattle.aggregate_rows.proofs.GroupLemmas.{found_zip, joins, more_values, no_rows, same_is, same_self}
-use Rattle.aggregate_rows.proofs.ListLemmas.{zip_at, zip_long, zip_push}
+use Rattle.aggregate_rows.proofs.ListLemmas.{zip_at}
 use Rattle.aggregate_rows.proofs.GatheredLemmas.{AreOneType, OfPart, views}
 
 front_none : {X : Type 0} (xs ys : List X) → xs ++ ys ≡ [] → xs ≡ []
@@ -64,65 +65,65 @@ module _ (equal : AreOneType) (places : List ℕ) (aggregates : List Aggregate) 
             (subst (λ ks. AllZip (OfPart aggregates) (map (rows_of_group places some) ks) (old.accumulators.items ++ made.0 ∷ [])) (sym (new none))
             (subst (λ ps. AllZip (OfPart aggregates) ps (old.accumulators.items ++ made.0 ∷ []))
             (sym (map-append (rows_of_group places some) (group_values places (some ++ more)) (values_at places row ∷ [])))
-            (zip_push (OfPart aggregates) (map (rows_of_group places some) (group_values places (some ++ more))) old.accumulators.items (rows_of_group places some (values_at places row)) made.0
+            (all_zipped_more (OfPart aggregates) (map (rows_of_group places some) (group_values places (some ++ more))) old.accumulators.items (rows_of_group places some (values_at places row)) made.0
             begun.accumulators_are (subst (λ part. OfPart aggregates part made.0) (sym (empty none)) made.1)))))
       ];
     }
 
   -- a row joins the group of its values
-  module _ (row : List CellValue) (mid : Groups) (begun : AreBegun places aggregates mid some (row ∷ [])) (g : ℕ) (group : IsGroupOf mid (values_at places row) g) where
+  module _ (row : List CellValue) (old mid : Groups) (held : HasGroups (Some places) aggregates old some) (g : ℕ) (key : List CellValue) (is : key ≡ values_at places row) (its : IsGroupOf mid key g)
+      (has : HasGroupMore aggregates old mid key) where
+    begun : AreBegun places aggregates mid some (row ∷ [])
+    begun = begun_more [] row old mid (none_more old held) (subst (HasGroupMore aggregates old mid) is has)
+
     at : (g < length (group_values places (some ++ row ∷ []))) × (get_or (group_values places (some ++ row ∷ [])) g [] ≡ values_at places row)
-    at = (subst (λ ks. g < length ks) begun.keys_are group.0, subst (λ ks. get_or ks g [] ≡ values_at places row) begun.keys_are group.1)
+    at = (subst (λ ks. g < length ks) begun.keys_are its.0, subst (λ ks. get_or ks g [] ≡ values_at places row) begun.keys_are (its.1 ∙ is))
 
     pub inside : g < length mid.accumulators.items
     inside =
-        let long = zip_long (OfPart aggregates) (map (rows_of_group places some) (group_values places (some ++ row ∷ []))) mid.accumulators.items begun.accumulators_are in
+        let long = AllZip-long (OfPart aggregates) (map (rows_of_group places some) (group_values places (some ++ row ∷ []))) mid.accumulators.items begun.accumulators_are in
         let count = length-map (group_values places (some ++ row ∷ [])) (rows_of_group places some) in
         let here = at.0 in
         omega arith
 
-    accumulators_there : (accumulators : Vec Accumulator Global) → accumulators ≡ get_or mid.accumulators.items g accumulators → AreAccumulators aggregates (rows_of_group places some (values_at places row)) accumulators.items
-    accumulators_there accumulators there =
-        let part = get_or-map (rows_of_group places some) (group_values places (some ++ row ∷ [])) g [] [] at.0 in
-        let its = zip_at (OfPart aggregates) (map (rows_of_group places some) (group_values places (some ++ row ∷ []))) mid.accumulators.items g [] accumulators begun.accumulators_are inside in
-        subst (λ (ts : Vec Accumulator Global). AreAccumulators aggregates (rows_of_group places some (values_at places row)) ts.items) (sym there)
-        (subst (λ p. OfPart aggregates p (get_or mid.accumulators.items g accumulators)) (part ∙ ap (rows_of_group places some) at.1) its)
+    module _ (accumulators : Vec Accumulator Global) (there : accumulators ≡ get_or mid.accumulators.items g accumulators) where
+      accumulators_there : AreAccumulators aggregates (rows_of_group places some (values_at places row)) accumulators.items
+      accumulators_there =
+          let part = get_or-map (rows_of_group places some) (group_values places (some ++ row ∷ [])) g [] [] at.0 in
+          let own = zip_at (OfPart aggregates) (map (rows_of_group places some) (group_values places (some ++ row ∷ []))) mid.accumulators.items g [] accumulators begun.accumulators_are inside in
+          subst (λ (ts : Vec Accumulator Global). AreAccumulators aggregates (rows_of_group places some (values_at places row)) ts.items) (sym there)
+          (subst (λ p. OfPart aggregates p (get_or mid.accumulators.items g accumulators)) (part ∙ ap (rows_of_group places some) at.1) own)
 
-    pub may_join : (width : ℕ) (accumulators : Vec Accumulator Global) → accumulators ≡ get_or mid.accumulators.items g accumulators → AllByRecursion (FitsAll width (some ++ row ∷ [])) aggregates
-        → MayTallyEach aggregates width accumulators.items (row ∷ [])
-    may_join width accumulators there fits = record {
-      rows = rows_of_group places some (values_at places row);
-      accumulators = accumulators_there accumulators there;
-      fits = subst (λ rs. AllByRecursion (FitsAll width rs) aggregates) (joins equal places some row (values_at places row) (same_self equal places (values_at places row)))
-          (all_fit_kept width (λ r. same_values (values_at places row) (values_at places r)) (some ++ row ∷ []) aggregates fits);
-    }
+      pub may_join : (width : ℕ) → AllByRecursion (FitsAll width (some ++ row ∷ [])) aggregates → MayTallyEach aggregates width accumulators.items (row ∷ [])
+      may_join width fits = record {
+        rows = rows_of_group places some (values_at places row);
+        accumulators = accumulators_there;
+        fits = subst (λ rs. AllByRecursion (FitsAll width rs) aggregates) (joins equal places some row (values_at places row) (same_self equal places (values_at places row)))
+            (all_fit_kept width (λ r. same_values (values_at places row) (values_at places r)) (some ++ row ∷ []) aggregates fits);
+      }
 
-    row_joins : (new : Groups) (accumulators made : Vec Accumulator Global) → IsDistinct same_values (group_values places (some ++ row ∷ [])) → accumulators ≡ get_or mid.accumulators.items g accumulators
-        → ((rows : List (List CellValue)) → AreAccumulators aggregates rows accumulators.items → AreAccumulators aggregates (rows ++ row ∷ []) made.items)
-        → new.keys.keys ≡ mid.keys.keys → new.accumulators.items ≡ slice_set mid.accumulators.items g made → HasGroups (Some places) aggregates new (some ++ row ∷ [])
-    row_joins new accumulators made distinct there joined keys put = record {
-      keys_are = ap views keys ∙ begun.keys_are;
-      accumulators_are =
-          subst (λ ts. AllZip (OfPart aggregates) (map (rows_of_group places (some ++ row ∷ [])) (group_values places (some ++ row ∷ []))) ts) (sym put)
-          (found_zip equal places some row (OfPart aggregates) (group_values places (some ++ row ∷ [])) mid.accumulators.items g made begun.accumulators_are distinct at.0 at.1
-          (joined (rows_of_group places some (values_at places row)) (accumulators_there accumulators there)));
-    }
+      pub row_joined : (new : Groups) (made : Vec Accumulator Global) (next : List (List CellValue)) → next ≡ some ++ row ∷ [] → IsDistinct same_values (group_values places (some ++ row ∷ []))
+          → TalliesEach aggregates accumulators.items made.items (row ∷ []) → new.keys.keys ≡ mid.keys.keys → new.accumulators.items ≡ slice_set mid.accumulators.items g made
+          → HasGroups (Some places) aggregates new next
+      row_joined new made next same distinct joined keys put = subst (HasGroups (Some places) aggregates new) (sym same) (record {
+        keys_are = ap views keys ∙ begun.keys_are;
+        accumulators_are =
+            subst (λ ts. AllZip (OfPart aggregates) (map (rows_of_group places (some ++ row ∷ [])) (group_values places (some ++ row ∷ []))) ts) (sym put)
+            (found_zip equal places some row (OfPart aggregates) (group_values places (some ++ row ∷ [])) mid.accumulators.items g made begun.accumulators_are distinct at.0 at.1
+            (joined (rows_of_group places some (values_at places row)) accumulators_there));
+      })
 
-    pub row_joined : (new : Groups) (accumulators made : Vec Accumulator Global) (next : List (List CellValue)) → next ≡ some ++ row ∷ [] → IsDistinct same_values (group_values places (some ++ row ∷ []))
-        → accumulators ≡ get_or mid.accumulators.items g accumulators → ((rows : List (List CellValue)) → AreAccumulators aggregates rows accumulators.items → AreAccumulators aggregates (rows ++ row ∷ []) made.items)
-        → new.keys.keys ≡ mid.keys.keys → new.accumulators.items ≡ slice_set mid.accumulators.items g made → HasGroups (Some places) aggregates new next
-    row_joined new accumulators made next is distinct there joined keys put = subst (HasGroups (Some places) aggregates new) (sym is) (row_joins new accumulators made distinct there joined keys put)
+-- a key that is one of theirs
+pub is_theirs : (aggregates : List Aggregate) (groups : Groups) (key : List CellValue) → list_any (same_values key) (keys_held groups) ≡ true → HasGroupMore aggregates groups groups key
+is_theirs aggregates groups key among = record {
+  keys = sym (ap (λ b. cond b (keys_held groups) (keys_held groups ++ key ∷ [])) among);
+  stay = λ _. refl;
+  begins = λ none. absurd (false≢true (sym none ∙ among));
+}
 
--- a key that is found
 pub key_found : (aggregates : List Aggregate) (groups : Groups) (key : List CellValue) (g : ℕ) → position (same_values key) (keys_held groups) ≡ Some g → HasGroupMore aggregates groups groups key
 key_found aggregates groups key g found =
-    let there = position-Some (same_values key) (keys_held groups) g [] found in
-    let among : list_any (same_values key) (keys_held groups) ≡ true = list_any_at (same_values key) (keys_held groups) g [] there.0 there.1 in
-    record {
-      keys = sym (ap (λ b. cond b (keys_held groups) (keys_held groups ++ key ∷ [])) among);
-      stay = λ _. refl;
-      begins = λ none. absurd (false≢true (sym none ∙ among));
-    }
+    let there = position-Some (same_values key) (keys_held groups) g [] found in is_theirs aggregates groups key (list_any_at (same_values key) (keys_held groups) g [] there.0 there.1)
 
 pub found_place : (equal : AreOneType) (groups : Groups) (key : List CellValue) (g : ℕ) → position (same_values key) (keys_held groups) ≡ Some g → IsGroupOf groups key g
 found_place equal groups key g found =

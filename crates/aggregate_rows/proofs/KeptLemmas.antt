@@ -1,7 +1,7 @@
 -- Sums of the numbers of a column as a block keeps them.
-use Rattle.std.proofs.Common.{◌≡◌, ℕ, ℤ, zero, suc, ◌+◌, ◌<◌, ◌+ℤ◌, false, cond, Option, Some, None, List, [], ◌∷◌, length, get_or, count_by, refl, sym, ap, subst, ◌∙◌, arith}
-use Rattle.std.specs.List.{All, cons_option, filter_map}
-use Rattle.std.proofs.lemmas.List.{ext_get_or, get_or-map, get_or_default, length-map}
+use Rattle.std.proofs.Common.{◌≡◌, ℕ, ℤ, zero, suc, ◌+◌, ◌<◌, ◌+ℤ◌, false, cond, Option, Some, None, List, [], ◌∷◌, length, get_or, count_by, refl, sym, ap, ◌∙◌, arith}
+use Rattle.std.specs.List.{cons_option, filter_map}
+use Rattle.std.proofs.lemmas.List.{length-map}
 use Rattle.std.proofs.lemmas.List.Sums.{count_by-le-length, sum_by-cons}
 use Rattle.std.proofs.Math.ListN.{get_or-map as get_or-map_default}
 use Rattle.block_summary.specs.Ranges.{column_of, is_null}
@@ -11,30 +11,11 @@ use Rattle.block_summary.specs.declared.number.PackedType.{PackedType}
 use Rattle.block_summary.specs.declared.number.PackedType.TheVariants.{Integer, Decimal}
 use Rattle.cell_types.specs.Value.{CellValue, null}
 use Rattle.query_meaning.specs.Apply.{integer_sum}
-use Rattle.row_selection.proofs.NumberLemmas.{get-from, length-from}
-use Rattle.row_selection.specs.Numbers.{numbers_from}
 use Rattle.row_columns.specs.Picked.{numbered}
 use Rattle.row_eval.specs.Row.{cell, decimal_in, integer_in}
 use Rattle.aggregate_rows.specs.declared.sums.Summed.{Summed}
 use Rattle.aggregate_rows.specs.declared.sums.Summed.TheVariants.{Integers, Decimals}
 use Rattle.aggregate_rows.specs.Sums.{numbers_at, numbers_in, read_of, sum_of, summed_type, IsKeptAs}
-
--- all rows, in their order
-pub all_numbered : (numbers : List ℕ) (rows : List (List CellValue)) → numbers ≡ numbers_from 0 (length numbers) → length numbers ≡ length rows → numbered numbers rows ≡ rows
-all_numbered numbers rows all long =
-    let none : List CellValue = [] in
-    ext_get_or none (numbered numbers rows) rows (length-map numbers (λ n. get_or rows n none) ∙ long)
-    (λ i less. let inside : i < length numbers = omega (arith, less, length-map numbers (λ n. get_or rows n none)) in
-    get_or-map (λ n. get_or rows n none) numbers i 0 none inside ∙ ap (λ n. get_or rows n none) (ap (λ (ns : List ℕ). get_or ns i 0) all ∙ omega (arith, get-from 0 (length numbers) i inside)))
-
-pub every_numbered : (rows : List (List CellValue)) → numbered (numbers_from 0 (length rows)) rows ≡ rows
-every_numbered rows =
-    let long = length-from 0 (length rows) in all_numbered (numbers_from 0 (length rows)) rows (ap (numbers_from 0) (sym long)) long
-
-pub numbers_inside : (count : ℕ) → All (λ n. n < count) (numbers_from 0 count)
-numbers_inside count = λ k d h.
-    let inside : k < count = omega (arith, h, length-from 0 count) in
-    subst (λ n. n < count) (sym (get_or_default (numbers_from 0 count) k d 0 h ∙ omega (arith, get-from 0 count k inside))) inside
 
 -- ---- numbers and nulls
 

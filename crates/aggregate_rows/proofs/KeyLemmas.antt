@@ -1,11 +1,9 @@
 -- Keys of groups and the values that they stand for.
-use Rattle.std.proofs.Common.{◌≡◌, ℕ, zero, suc, ◌<◌, Bool, Bor, true, Some, List, [], ◌∷◌, length, map, get_or, position, refl, sym, ap, ◌∙◌, arith}
-use Rattle.std.specs.Prelude.{slice_get}
+use Rattle.std.proofs.Common.{◌≡◌, ℕ, ◌<◌, Bool, Bor, List, [], ◌∷◌, length, map, get_or, position, refl, sym, ap, ◌∙◌}
 use Rattle.std.specs.Cmp.Lexicographic.{pointwise}
 use Rattle.std.specs.List.{list_any, position_or_len}
 use Rattle.std.specs.Map.Iter.{deref}
 use Rattle.std.proofs.lemmas.List.{get_or-map, length-map}
-use Rattle.std.proofs.Math.Bool.{and-true}
 use Rattle.cell_types.specs.Value.{CellValue, value_eq}
 use Rattle.query_meaning.specs.Apply.{same_values}
 
@@ -29,23 +27,6 @@ module _ {V : Type 0} (view : V → CellValue) (eq : V → V → Bool) (eq_is : 
 
     pub position_key : (ks : List K) → position (λ k. pointwise eq key (items k)) ks ≡ position (same_values (map view key)) (map (λ k. map view (items k)) ks)
     position_key ks = rw (place_key ks, length-map ks (λ k. map view (items k))) refl
-
--- ---- keys of one value
-
-module _ {V : Type 0} (view : V → CellValue) (eq : V → V → Bool) (eq_is : (v w : V) → eq v w ≡ value_eq (view v) (view w)) (key : V) where
-  pub same_one : (k : V) → same_values (view key ∷ []) (view k ∷ []) ≡ eq key k
-  same_one k = and-true (value_eq (view key) (view k)) ∙ sym (eq_is key k)
-
-  pub any_one : (ks : List V) → list_any (same_values (view key ∷ [])) (map (λ k. view k ∷ []) ks) ≡ list_any (eq key) ks
-  any_one [] = refl
-  any_one (k ∷ ks) = rw (same_one k, any_one ks) refl
-
-  -- a key that is found stands in its place
-  pub one_found : (ks : List V) (g : ℕ) (k : V) → slice_get ks g ≡ Some k → eq key k ≡ true
-      → (g < length (map (λ k. view k ∷ []) ks)) × (same_values (view key ∷ []) (get_or (map (λ k. view k ∷ []) ks) g []) ≡ true)
-  one_found [] g k e same = absurd (cc)
-  one_found (j ∷ ks) zero k e same = let is : j ≡ k = cc in (omega arith, same_one j ∙ ap (eq key) is ∙ same)
-  one_found (j ∷ ks) (suc g) k e same = let more = one_found ks g k e same in let inside = more.0 in (omega arith, more.1)
 
 -- ---- keys that are lent
 

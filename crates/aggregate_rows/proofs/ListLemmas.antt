@@ -1,6 +1,6 @@
 -- Lists, and how many different elements they have, where one more comes behind them.
 use Rattle.std.proofs.Common.{◌≡◌, ℕ, zero, suc, ◌+◌, ◌<◌, ◌≤◌, Bool, true, false, cond, ◌||◌, List, [], ◌∷◌, ◌++◌, length, get_or, inl, inr, refl, sym, ap, subst, ◌∙◌, arith}
-use Rattle.std.specs.Prelude.{Result, Ok, Err, OnOk, slice_set}
+use Rattle.std.specs.Prelude.{slice_set}
 use Rattle.std.specs.List.{AllByRecursion, AllZip, list_any}
 use Rattle.std.specs.Set.{distinct_count, unique_keys}
 use Rattle.std.proofs.lemmas.Bool.{cases_Bool, false≢true}
@@ -8,10 +8,6 @@ use Rattle.std.proofs.lemmas.List.Folds.{list_any-append}
 use Rattle.std.proofs.Math.Bool.{or-false}
 
 module _ {X : Type 0} (P : X → Type 0) where
-  pub all_append : (xs ys : List X) → AllByRecursion P xs → AllByRecursion P ys → AllByRecursion P (xs ++ ys)
-  all_append [] ys a b = b
-  all_append (x ∷ xs) ys a b = (a.0, all_append xs ys a.1 b)
-
   pub all_front : (xs ys : List X) → AllByRecursion P (xs ++ ys) → AllByRecursion P xs
   all_front [] ys a = tt
   all_front (x ∷ xs) ys a = (a.0, all_front xs ys a.1)
@@ -19,15 +15,6 @@ module _ {X : Type 0} (P : X → Type 0) where
   pub all_behind : (xs ys : List X) → AllByRecursion P (xs ++ ys) → AllByRecursion P ys
   all_behind [] ys a = a
   all_behind (x ∷ xs) ys a = all_behind xs ys a.1
-
-  pub all_at : (xs : List X) (i : ℕ) (d : X) → AllByRecursion P xs → i < length xs → P (get_or xs i d)
-  all_at [] i d a h = absurd (omega arith)
-  all_at (x ∷ xs) zero d a h = a.0
-  all_at (x ∷ xs) (suc i) d a h = all_at xs i d a.1 (omega arith)
-
-pub on_ok : {X E : Type 0} (P Q : Type 0) → (P → Q) → (r : Result X E) → OnOk r P → OnOk r Q
-on_ok P Q f (Ok x) h = f h
-on_ok P Q f (Err e) h = h
 
 module _ {X : Type 0} (eq : X → X → Bool) (is : (a b : X) → eq a b ≡ true → a ≡ b) (self : (a : X) → eq a a ≡ true) where
   member_more : (xs : List X) (y v : X) → list_any (eq v) (xs ++ y ∷ []) ≡ (list_any (eq v) xs || eq v y)
@@ -40,7 +27,7 @@ module _ {X : Type 0} (eq : X → X → Bool) (is : (a b : X) → eq a b ≡ tru
     | inr e ↦ rw e (or-false (list_any (eq v) xs))
   ]
 
-  turned : (a b : X) → eq a b ≡ false → eq b a ≡ false
+  pub turned : (a b : X) → eq a b ≡ false → eq b a ≡ false
   turned a b e = elim (cases_Bool (eq b a)) [
     | inl t ↦ (let same : b ≡ a = is b a t in absurd (false≢true (sym e ∙ subst (λ z. eq z b ≡ true) same (self b))))
     | inr f ↦ f
@@ -101,12 +88,6 @@ module _ {A B : Type 0} (R : A → B → Type 0) where
   zip_at (x ∷ xs) (y ∷ ys) zero d e z h = z.0
   zip_at (x ∷ xs) (y ∷ ys) (suc i) d e z h = zip_at xs ys i d e z.1 (omega arith)
 
-  pub zip_push : (xs : List A) (ys : List B) (x : A) (y : B) → AllZip R xs ys → R x y → AllZip R (xs ++ x ∷ []) (ys ++ y ∷ [])
-  zip_push [] [] x y z r = (r, tt)
-  zip_push [] (b ∷ ys) x y z r = absurd z
-  zip_push (a ∷ xs) [] x y z r = absurd z
-  zip_push (a ∷ xs) (b ∷ ys) x y z r = (z.0, zip_push xs ys x y z.1 r)
-
 -- the first so many by one relation, the others by another
 abbrev pub ZipFrom : {A B : Type 0} → (A → B → Type 0) → (A → B → Type 0) → ℕ → List A → List B → Type 0
 ZipFrom R S zero xs ys = AllZip S xs ys
@@ -147,10 +128,3 @@ module _ {A B : Type 0} (R S : A → B → Type 0) where
   from_long [] (y ∷ ys) (suc i) z = absurd z
   from_long (x ∷ xs) [] (suc i) z = absurd z
   from_long (x ∷ xs) (y ∷ ys) (suc i) z = ap suc (from_long xs ys i z.1)
-
-pub zip_set : {A B : Type 0} (R : A → B → Type 0) (xs : List A) (ys : List B) (i : ℕ) (x : A) (y : B) → AllZip R xs ys → R x y → AllZip R (slice_set xs i x) (slice_set ys i y)
-zip_set R [] [] i x y z r = tt
-zip_set R [] (b ∷ ys) i x y z r = absurd z
-zip_set R (a ∷ xs) [] i x y z r = absurd z
-zip_set R (a ∷ xs) (b ∷ ys) zero x y z r = (r, z.1)
-zip_set R (a ∷ xs) (b ∷ ys) (suc i) x y z r = (z.0, zip_set R xs ys i x y z.1 r)

@@ -2,10 +2,11 @@
 use Rattle.std.proofs.Common.{◌≡◌, ℕ, zero, suc, ◌<◌, ◌+◌, Bool, true, false, cond, List, [], ◌∷◌, ◌++◌, Vec, Global, length, take, get_or, inl, inr, refl, sym, ap, subst, ◌∙◌, arith}
 use Rattle.std.specs.Prelude.{nat_eq, slice_set}
 use Rattle.std.specs.List.{All, AllByRecursion, IsDistinct}
-use Rattle.std.proofs.lemmas.Bool.{cases_Bool, false≢true}
+use Rattle.std.proofs.lemmas.Bool.{cases_Bool, cases_order, false≢true}
 use Rattle.std.proofs.lemmas.Bool.Decides.{nat_tests}
 use Rattle.std.proofs.lemmas.List.{append-nil, take_more}
 use Rattle.std.proofs.lemmas.List.Elements.{All-from_recursion}
+use Rattle.std.proofs.lemmas.Map.Keys.{apart_from_distinct}
 use Rattle.cell_types.specs.Value.{CellValue}
 use Rattle.query_meaning.specs.Apply.{rows_of_group, same_values, values_at}
 use Rattle.row_columns.specs.Picked.{numbered}
@@ -17,7 +18,7 @@ use Rattle.aggregate_rows.proofs.GroupLemmas.{same_is, same_self}
 use Rattle.aggregate_rows.specs.declared.accumulator.Accumulator.{Accumulator}
 use Rattle.aggregate_rows.specs.Tallies.{AreAccumulators, FitsAll, MayTallyEach, TalliesEach}
 use Rattle.odata_query.specs.declared.aggregate.Aggregate.{Aggregate}
-use Rattle.aggregate_rows.proofs.ListLemmas.{all_at, from_long, next_by, one_more_by, zip_at, zip_long, ZipFrom}
+use Rattle.aggregate_rows.proofs.ListLemmas.{from_long, next_by, one_more_by, zip_at, zip_long, ZipFrom}
 
 -- ---- numbers by their groups
 
@@ -101,15 +102,14 @@ within_parts P start ns gs (part ∷ parts) are all =
 
 -- ---- the parts have the rows of the groups
 
-distinct_at : (equal : AreOneType) (keys : List (List CellValue)) (i j : ℕ) → IsDistinct same_values keys → i < length keys → j < length keys → get_or keys i [] ≡ get_or keys j [] → i ≡ j
-unfolding IsDistinct
-distinct_at equal [] i j d h k e = absurd (omega arith)
-distinct_at equal (v ∷ vs) zero zero d h k e = refl
-distinct_at equal (v ∷ vs) zero (suc j) d h k e =
-    absurd (false≢true (sym (all_at (λ w. same_values v w ≡ false) vs j [] d.0 (omega arith)) ∙ subst (λ w. same_values v w ≡ true) e (same_self equal [] v)))
-distinct_at equal (v ∷ vs) (suc i) zero d h k e =
-    absurd (false≢true (sym (all_at (λ w. same_values v w ≡ false) vs i [] d.0 (omega arith)) ∙ subst (λ w. same_values v w ≡ true) (sym e) (same_self equal [] v)))
-distinct_at equal (v ∷ vs) (suc i) (suc j) d h k e = ap suc (distinct_at equal vs i j d.1 (omega arith) (omega arith) e)
+module _ (equal : AreOneType) (keys : List (List CellValue)) (distinct : IsDistinct same_values keys) where
+  apart : (i j : ℕ) → i < j → j < length keys → get_or keys i [] ≡ get_or keys j [] → ⊥
+  apart i j less k e = false≢true
+      (sym (apart_from_distinct same_values keys i j [] distinct less k) ∙ subst (λ w. same_values (get_or keys i []) w ≡ true) e (same_self equal [] (get_or keys i [])))
+
+  distinct_at : (i j : ℕ) → i < length keys → j < length keys → get_or keys i [] ≡ get_or keys j [] → i ≡ j
+  distinct_at i j h k e =
+      elim (cases_order i j) [ inl same ↦ same | inr (inl less) ↦ absurd (apart i j less k e) | inr (inr more) ↦ absurd (apart j i more h (sym e)) ]
 
 module _ (equal : AreOneType) (places : List ℕ) (groups : Groups) (distinct : IsDistinct same_values (keys_held groups)) (rows : List (List CellValue)) where
   group_rows : (g : ℕ) (ns gs : List ℕ) → g < length (keys_held groups) → AreGroupsOf groups places (numbered ns rows) gs
@@ -127,7 +127,7 @@ module _ (equal : AreOneType) (places : List ℕ) (groups : Groups) (distinct : 
             subst (λ v. same_values key v ≡ true) (sym (ap (λ i. get_or (keys_held groups) i []) same) ∙ are.0.1) (same_self equal places key) in
             rw (t, among) (ap (λ rs. row ∷ rs) rest))
         | inr f ↦ (elim (cases_Bool (same_values key (values_at places row))) [
-          | inl s ↦ (let same : g ≡ h = distinct_at equal (keys_held groups) g h distinct inside are.0.0 (same_is equal places key (values_at places row) s ∙ sym are.0.1) in
+          | inl s ↦ (let same : g ≡ h = distinct_at equal (keys_held groups) distinct g h inside are.0.0 (same_is equal places key (values_at places row) s ∙ sym are.0.1) in
               let is : nat_eq h g ≡ true = grind (arith, nat_tests) in absurd (false≢true (sym f ∙ is)))
           | inr other ↦ rw (f, other) rest
         ])
@@ -172,7 +172,7 @@ module _ (aggregates : List Aggregate) (rows : List (List CellValue)) (parts : L
     rows = before (get_or keys i []);
     accumulators = its old is;
     fits = subst (λ rs. AllByRecursion (FitsAll width (before (get_or keys i []) ++ rs)) aggregates) (sym come)
-        (all_at (λ key. AllByRecursion (FitsAll width (before key ++ more key)) aggregates) keys i [] fits there);
+        (All-from_recursion (λ key. AllByRecursion (FitsAll width (before key ++ more key)) aggregates) keys fits i [] there);
   }
 
   pub part_joined : (old made : Vec Accumulator Global) → old ≡ get_or accumulators i old → TalliesEach aggregates old.items made.items (numbered part.items rows)

@@ -1,12 +1,12 @@
 -- The rows with some numbers, and the values that they have in a column.
-use Rattle.std.proofs.Common.{◌≡◌, ℕ, zero, suc, ◌-◌, ◌<◌, ◌≤◌, Option, Some, List, [], ◌∷◌, length, map, drop, get_or, refl, sym, ap, ◌∙◌, arith}
+use Rattle.std.proofs.Common.{◌≡◌, ℕ, zero, suc, ◌+◌, ◌-◌, ◌++◌, ◌<◌, ◌≤◌, Some, List, [], ◌∷◌, length, map, take, drop, get_or, sym, ap, ◌∙◌, arith}
 use Rattle.std.specs.Prelude.{option_and_then, slice_get, slice_index_or}
-use Rattle.std.specs.List.{cons_option, filter_map}
 use Rattle.std.proofs.Math.Seq.{drop-cons}
+use Rattle.std.proofs.lemmas.List.{map-append, map_more}
 use Rattle.std.proofs.lemmas.Option.{get_or_from_slice_get}
-use Rattle.cell_types.specs.Value.{CellValue, null}
-use Rattle.row_eval.specs.Row.{cell}
-use Rattle.query_meaning.specs.Apply.{value_at}
+use Rattle.cell_types.specs.Value.{CellValue, null, value_view}
+use Rattle.cell_types.specs.declared.value.Value.{Value}
+use Rattle.query_meaning.specs.Apply.{value_at, values_at}
 use Rattle.row_columns.specs.Picked.{numbered}
 
 -- the value of a row and a column is that of the row with that number
@@ -27,10 +27,6 @@ row_before rows numbers i some within =
     let next : suc (i - 1) ≡ i = omega arith in
     ap (λ ns. numbered ns rows) (drop-cons numbers (i - 1) 0 (omega arith)) ∙ ap (λ k. slice_index_or rows (get_or numbers (i - 1) 0) [] ∷ numbered (drop k numbers) rows) next
 
-pub drop_whole : (numbers : List ℕ) (rows : List (List CellValue)) → numbered (drop (length numbers) numbers) rows ≡ []
-drop_whole [] rows = refl
-drop_whole (n ∷ ns) rows = drop_whole ns rows
-
 -- the values of these rows in a column, where one row more comes before them
 pub values_before : (rows : List (List CellValue)) (numbers : List ℕ) (i place : ℕ) (value : CellValue) → 0 < i → i ≤ length numbers
     → option_and_then (λ values. slice_get values place) (slice_get rows (get_or numbers (i - 1) 0)) ≡ Some value
@@ -39,16 +35,11 @@ values_before rows numbers i place value some within e =
     ap (map (λ row. value_at row place)) (row_before rows numbers i some within)
     ∙ ap (λ v. v ∷ map (λ row. value_at row place) (numbered (drop i numbers) rows)) (value_there rows (get_or numbers (i - 1) 0) place value e)
 
-pub cells_before : {X : Type 0} (read : CellValue → Option X) (rows : List (List CellValue)) (numbers : List ℕ) (i place : ℕ) → 0 < i → i ≤ length numbers
-    → filter_map (λ row. cell read row place) (numbered (drop (i - 1) numbers) rows)
-    ≡ cons_option (cell read (slice_index_or rows (get_or numbers (i - 1) 0) []) place) (filter_map (λ row. cell read row place) (numbered (drop i numbers) rows))
-cells_before read rows numbers i place some within = ap (filter_map (λ row. cell read row place)) (row_before rows numbers i some within)
-
-pub read_there : {X : Type 0} (read : CellValue → Option X) (rows : List (List CellValue)) (number place : ℕ) (value : CellValue)
-    → option_and_then (λ values. slice_get values place) (slice_get rows number) ≡ Some value → read value ≡ cell read (slice_index_or rows number []) place
-read_there read rows number place value e = sym (ap (option_and_then read) (cell_there rows number place value e))
-
-pub numbered_drop : (rows : List (List CellValue)) (numbers : List ℕ) (i : ℕ) → numbered (drop i numbers) rows ≡ drop i (numbered numbers rows)
-numbered_drop rows numbers zero = refl
-numbered_drop rows [] (suc i) = refl
-numbered_drop rows (n ∷ ns) (suc i) = numbered_drop rows ns i
+-- the values of a row in the columns with some places, and in one column more
+pub key_more : (rows : List (List CellValue)) (number : ℕ) (places : List ℕ) (i : ℕ) (key : List Value) (value : Value) {next : List Value} → i < length places
+    → option_and_then (λ values. slice_get values (get_or places i 0)) (slice_get rows number) ≡ Some (value_view value) → next ≡ key ++ value ∷ []
+    → map value_view key ≡ values_at (take i places) (slice_index_or rows number []) → map value_view next ≡ values_at (take (i + 1) places) (slice_index_or rows number [])
+key_more rows number places i key value less at e so_far =
+    ap (map value_view) e ∙ map-append value_view key (value ∷ []) ∙ ap (λ vs. vs ++ value_view value ∷ []) so_far
+    ∙ ap (λ v. values_at (take i places) (slice_index_or rows number []) ++ v ∷ []) (sym (value_there rows number (get_or places i 0) (value_view value) at))
+    ∙ sym (map_more (value_at (slice_index_or rows number [])) places i 0 less)

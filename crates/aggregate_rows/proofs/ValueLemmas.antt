@@ -8,64 +8,24 @@ use Rattle.std.proofs.lemmas.Bool.{cases_Bool}
 use Rattle.std.proofs.lemmas.List.{length-append, map-append}
 use Rattle.std.proofs.lemmas.List.Elements.{filter-append}
 use Rattle.std.proofs.lemmas.List.Folds.{list_any-append}
-use Rattle.cell_types.specs.Value.{CellValue, value_cmp, value_eq}
+use Rattle.cell_types.specs.Value.{CellValue, null, value_cmp, value_eq}
 use Rattle.odata_query.specs.declared.aggregate.Aggregate.TheVariants.{Max, Min}
 use Rattle.query_meaning.specs.Apply.{computed_value, is_value, least_value, greatest_value, value_at, present_values}
 use Rattle.aggregate_rows.specs.Computed.{greater_value, lesser_value}
 use Rattle.aggregate_rows.specs.Tallies.{HasDistinct}
 use Rattle.aggregate_rows.proofs.ExtremeLemmas.{below_trans, not_below, pick, picked}
-use Rattle.aggregate_rows.proofs.ListLemmas.{all_append, count_behind, there_already}
+use Rattle.aggregate_rows.proofs.ListLemmas.{count_behind, there_already}
 
 all_values : (vs : List CellValue) → AllByRecursion (λ v. is_value v ≡ true) (filter is_value vs)
 all_values [] = tt
 all_values (v ∷ vs) = elim (cases_Bool (is_value v)) [ inl e ↦ rw e (e, all_values vs) | inr e ↦ rw e (all_values vs) ]
 
--- ---- the least
+-- ---- the best of values, where a test tells which of two wins: null is none
 
-least_is_value : (w : CellValue) (ws : List CellValue) → AllByRecursion (λ v. is_value v ≡ true) (w ∷ ws) → is_value (least_value (w ∷ ws)) ≡ true
-least_is_value w [] a = a.0
-least_is_value w (x ∷ ws) a = elim (cases_Bool (is_lt (value_cmp (least_value (x ∷ ws)) w))) [
-  | inl e ↦ rw e (least_is_value x ws a.1)
-  | inr e ↦ rw e a.0
-]
-
-least_of : (v : CellValue) (ws : List CellValue) → AllByRecursion (λ v. is_value v ≡ true) ws → is_value v ≡ true → least_value (v ∷ ws) ≡ lesser_value v (least_value ws)
-least_of v [] a e = rw e refl
-least_of v (w ∷ ws) a e = rw (e, least_is_value w ws a) refl
-
-pub least_before : (v : CellValue) (vs : List CellValue) → least_value (filter is_value (v ∷ vs)) ≡ lesser_value v (least_value (filter is_value vs))
-least_before v vs = elim (cases_Bool (is_value v)) [
-  | inl e ↦ (let front : filter is_value (v ∷ vs) ≡ v ∷ filter is_value vs = rw e refl in ap least_value front ∙ least_of v (filter is_value vs) (all_values vs) e)
-  | inr e ↦ rw e refl
-]
-
--- ---- the greatest
-
-greatest_is_value : (w : CellValue) (ws : List CellValue) → AllByRecursion (λ v. is_value v ≡ true) (w ∷ ws) → is_value (greatest_value (w ∷ ws)) ≡ true
-greatest_is_value w [] a = a.0
-greatest_is_value w (x ∷ ws) a = elim (cases_Bool (is_lt (value_cmp w (greatest_value (x ∷ ws))))) [
-  | inl e ↦ rw e (greatest_is_value x ws a.1)
-  | inr e ↦ rw e a.0
-]
-
-greatest_of : (v : CellValue) (ws : List CellValue) → AllByRecursion (λ v. is_value v ≡ true) ws → is_value v ≡ true → greatest_value (v ∷ ws) ≡ greater_value v (greatest_value ws)
-greatest_of v [] a e = rw e refl
-greatest_of v (w ∷ ws) a e = rw (e, greatest_is_value w ws a) refl
-
-pub greatest_before : (v : CellValue) (vs : List CellValue) → greatest_value (filter is_value (v ∷ vs)) ≡ greater_value v (greatest_value (filter is_value vs))
-greatest_before v vs = elim (cases_Bool (is_value v)) [
-  | inl e ↦ (let front : filter is_value (v ∷ vs) ≡ v ∷ filter is_value vs = rw e refl in ap greatest_value front ∙ greatest_of v (filter is_value vs) (all_values vs) e)
-  | inr e ↦ rw e refl
-]
-
--- ---- the least and the greatest of values and of more
-
--- one of two values, where a test tells which: null is none
 abbrev choose : (CellValue → CellValue → Bool) → CellValue → CellValue → CellValue
 choose wins v w = cond (is_value v) (cond (is_value w) (pick wins v w) v) w
 
-module _ (wins : CellValue → CellValue → Bool) (trans : (u v w : CellValue) → wins w v ≡ true → wins v u ≡ true → wins w u ≡ true)
-    (lost : (u v w : CellValue) → wins w v ≡ false → wins v u ≡ false → wins w u ≡ false) where
+module _ (wins : CellValue → CellValue → Bool) where
   value_picked : (v w : CellValue) → is_value v ≡ true → is_value w ≡ true → is_value (pick wins v w) ≡ true
   value_picked v w a b = elim (cases_Bool (wins w v)) [ inl e ↦ rw e b | inr e ↦ rw e a ]
 
@@ -78,64 +38,74 @@ module _ (wins : CellValue → CellValue → Bool) (trans : (u v w : CellValue) 
   of_first : (v w : CellValue) → is_value v ≡ true → is_value w ≡ false → choose wins v w ≡ v
   of_first v w a b = rw (a, b) refl
 
-  chosen : (u v w : CellValue) → choose wins u (choose wins v w) ≡ choose wins (choose wins u v) w
-  chosen u v w = elim (cases_Bool (is_value u)) [
-    | inr a ↦ of_none u (choose wins v w) a ∙ sym (ap (λ z. choose wins z w) (of_none u v a))
-    | inl a ↦ elim (cases_Bool (is_value v)) [
-      | inr b ↦ ap (choose wins u) (of_none v w b) ∙ sym (ap (λ z. choose wins z w) (of_first u v a b))
-      | inl b ↦ elim (cases_Bool (is_value w)) [
-        | inr c ↦ ap (choose wins u) (of_first v w b c) ∙ of_both u v a b
-            ∙ sym (ap (λ z. choose wins z w) (of_both u v a b) ∙ of_first (pick wins u v) w (value_picked u v a b) c)
-        | inl c ↦ ap (choose wins u) (of_both v w b c) ∙ of_both u (pick wins v w) a (value_picked v w b c) ∙ picked wins trans lost u v w
-            ∙ sym (ap (λ z. choose wins z w) (of_both u v a b) ∙ of_both (pick wins u v) w (value_picked u v a b) c)
+  module _ (trans : (u v w : CellValue) → wins w v ≡ true → wins v u ≡ true → wins w u ≡ true)
+      (lost : (u v w : CellValue) → wins w v ≡ false → wins v u ≡ false → wins w u ≡ false) where
+    chosen : (u v w : CellValue) → choose wins u (choose wins v w) ≡ choose wins (choose wins u v) w
+    chosen u v w = elim (cases_Bool (is_value u)) [
+      | inr a ↦ of_none u (choose wins v w) a ∙ sym (ap (λ z. choose wins z w) (of_none u v a))
+      | inl a ↦ elim (cases_Bool (is_value v)) [
+        | inr b ↦ ap (choose wins u) (of_none v w b) ∙ sym (ap (λ z. choose wins z w) (of_first u v a b))
+        | inl b ↦ elim (cases_Bool (is_value w)) [
+          | inr c ↦ ap (choose wins u) (of_first v w b c) ∙ of_both u v a b
+              ∙ sym (ap (λ z. choose wins z w) (of_both u v a b) ∙ of_first (pick wins u v) w (value_picked u v a b) c)
+          | inl c ↦ ap (choose wins u) (of_both v w b c) ∙ of_both u (pick wins v w) a (value_picked v w b c) ∙ picked wins trans lost u v w
+              ∙ sym (ap (λ z. choose wins z w) (of_both u v a b) ∙ of_both (pick wins u v) w (value_picked u v a b) c)
+        ]
       ]
     ]
-  ]
+
+  module _ (best : List CellValue → CellValue) (none : best [] ≡ null) (one : (v : CellValue) → best (v ∷ []) ≡ v)
+      (more : (v w : CellValue) (ws : List CellValue) → best (v ∷ w ∷ ws) ≡ pick wins v (best (w ∷ ws))) where
+    best_is_value : (w : CellValue) (ws : List CellValue) → AllByRecursion (λ v. is_value v ≡ true) (w ∷ ws) → is_value (best (w ∷ ws)) ≡ true
+    best_is_value w [] a = ap is_value (one w) ∙ a.0
+    best_is_value w (x ∷ ws) a = ap is_value (more w x ws) ∙ value_picked w (best (x ∷ ws)) a.0 (best_is_value x ws a.1)
+
+    best_of : (v : CellValue) (ws : List CellValue) → AllByRecursion (λ v. is_value v ≡ true) ws → is_value v ≡ true → best (v ∷ ws) ≡ choose wins v (best ws)
+    best_of v [] a e = one v ∙ sym (ap (choose wins v) none ∙ of_first v null e refl)
+    best_of v (w ∷ ws) a e = more v w ws ∙ sym (of_both v (best (w ∷ ws)) e (best_is_value w ws a))
+
+    best_before : (v : CellValue) (vs : List CellValue) → best (filter is_value (v ∷ vs)) ≡ choose wins v (best (filter is_value vs))
+    best_before v vs = elim (cases_Bool (is_value v)) [
+      | inl e ↦ (let front : filter is_value (v ∷ vs) ≡ v ∷ filter is_value vs = rw e refl in ap best front ∙ best_of v (filter is_value vs) (all_values vs) e)
+      | inr e ↦ (let front : filter is_value (v ∷ vs) ≡ filter is_value vs = rw e refl in ap best front ∙ sym (of_none v (best (filter is_value vs)) e))
+    ]
+
+    best_joined : ((u v w : CellValue) → choose wins u (choose wins v w) ≡ choose wins (choose wins u v) w) → (vs ws : List CellValue)
+        → best (filter is_value (vs ++ ws)) ≡ choose wins (best (filter is_value vs)) (best (filter is_value ws))
+    best_joined joins [] ws = sym (ap (λ z. choose wins z (best (filter is_value ws))) none)
+    best_joined joins (v ∷ vs) ws =
+        best_before v (vs ++ ws) ∙ ap (choose wins v) (best_joined joins vs ws) ∙ joins v (best (filter is_value vs)) (best (filter is_value ws))
+        ∙ ap (λ z. choose wins z (best (filter is_value ws))) (sym (best_before v vs))
+
+-- ---- the least and the greatest
+
+pub least_before : (v : CellValue) (vs : List CellValue) → least_value (filter is_value (v ∷ vs)) ≡ lesser_value v (least_value (filter is_value vs))
+least_before = best_before (λ x y. is_lt (value_cmp x y)) least_value refl (λ v. refl) (λ v w ws. refl)
+
+pub greatest_before : (v : CellValue) (vs : List CellValue) → greatest_value (filter is_value (v ∷ vs)) ≡ greater_value v (greatest_value (filter is_value vs))
+greatest_before = best_before (λ x y. is_lt (value_cmp y x)) greatest_value refl (λ v. refl) (λ v w ws. refl)
+
+module _ (total : IsTotalOrder value_cmp) (place : ℕ) (rows more : List (List CellValue)) where
+  pub least_joined : computed_value (rows ++ more) (Min place) ≡ lesser_value (computed_value rows (Min place)) (computed_value more (Min place))
+  least_joined =
+      ap (λ vs. least_value (filter is_value vs)) (map-append (λ row. value_at row place) rows more)
+      ∙ best_joined (λ x y. is_lt (value_cmp x y)) least_value refl (λ v. refl) (λ v w ws. refl)
+      (chosen (λ x y. is_lt (value_cmp x y)) (λ x y z e f. below_trans value_cmp total z y x e f) (λ x y z e f. not_below value_cmp total z y x e f))
+      (map (λ row. value_at row place) rows) (map (λ row. value_at row place) more)
+
+  pub greatest_joined : computed_value (rows ++ more) (Max place) ≡ greater_value (computed_value rows (Max place)) (computed_value more (Max place))
+  greatest_joined =
+      ap (λ vs. greatest_value (filter is_value vs)) (map-append (λ row. value_at row place) rows more)
+      ∙ best_joined (λ x y. is_lt (value_cmp y x)) greatest_value refl (λ v. refl) (λ v w ws. refl)
+      (chosen (λ x y. is_lt (value_cmp y x)) (λ x y z e f. below_trans value_cmp total x y z f e) (λ x y z e f. not_below value_cmp total x y z f e))
+      (map (λ row. value_at row place) rows) (map (λ row. value_at row place) more)
 
 pub values_append : (place : ℕ) (rows more : List (List CellValue)) → present_values place (rows ++ more) ≡ present_values place rows ++ present_values place more
 values_append place rows more =
     ap (filter is_value) (map-append (λ row. value_at row place) rows more)
     ∙ filter-append is_value (map (λ row. value_at row place) rows) (map (λ row. value_at row place) more)
 
-module _ (total : IsTotalOrder value_cmp) where
-  lesser_chosen : (u v w : CellValue) → lesser_value u (lesser_value v w) ≡ lesser_value (lesser_value u v) w
-  lesser_chosen u v w = chosen (λ x y. is_lt (value_cmp x y)) (λ x y z e f. below_trans value_cmp total z y x e f) (λ x y z e f. not_below value_cmp total z y x e f) u v w
-
-  greater_chosen : (u v w : CellValue) → greater_value u (greater_value v w) ≡ greater_value (greater_value u v) w
-  greater_chosen u v w = chosen (λ x y. is_lt (value_cmp y x)) (λ x y z e f. below_trans value_cmp total x y z f e) (λ x y z e f. not_below value_cmp total x y z f e) u v w
-
-  least_append : (vs ws : List CellValue) → AllByRecursion (λ v. is_value v ≡ true) vs → AllByRecursion (λ v. is_value v ≡ true) ws
-      → least_value (vs ++ ws) ≡ lesser_value (least_value vs) (least_value ws)
-  least_append [] ws a b = refl
-  least_append (v ∷ vs) ws a b =
-      least_of v (vs ++ ws) (all_append (λ v. is_value v ≡ true) vs ws a.1 b) a.0
-      ∙ ap (lesser_value v) (least_append vs ws a.1 b) ∙ lesser_chosen v (least_value vs) (least_value ws)
-      ∙ ap (λ z. lesser_value z (least_value ws)) (sym (least_of v vs a.1 a.0))
-
-  greatest_append : (vs ws : List CellValue) → AllByRecursion (λ v. is_value v ≡ true) vs → AllByRecursion (λ v. is_value v ≡ true) ws
-      → greatest_value (vs ++ ws) ≡ greater_value (greatest_value vs) (greatest_value ws)
-  greatest_append [] ws a b = refl
-  greatest_append (v ∷ vs) ws a b =
-      greatest_of v (vs ++ ws) (all_append (λ v. is_value v ≡ true) vs ws a.1 b) a.0
-      ∙ ap (greater_value v) (greatest_append vs ws a.1 b) ∙ greater_chosen v (greatest_value vs) (greatest_value ws)
-      ∙ ap (λ z. greater_value z (greatest_value ws)) (sym (greatest_of v vs a.1 a.0))
-
-  pub least_joined : (place : ℕ) (rows more : List (List CellValue))
-      → computed_value (rows ++ more) (Min place) ≡ lesser_value (computed_value rows (Min place)) (computed_value more (Min place))
-  least_joined place rows more =
-      ap least_value (values_append place rows more) ∙ least_append (present_values place rows) (present_values place more) (all_values (map (λ row. value_at row place) rows))
-      (all_values (map (λ row. value_at row place) more))
-
-  pub greatest_joined : (place : ℕ) (rows more : List (List CellValue))
-      → computed_value (rows ++ more) (Max place) ≡ greater_value (computed_value rows (Max place)) (computed_value more (Max place))
-  greatest_joined place rows more =
-      ap greatest_value (values_append place rows more) ∙ greatest_append (present_values place rows) (present_values place more) (all_values (map (λ row. value_at row place) rows))
-      (all_values (map (λ row. value_at row place) more))
-
 -- ---- different values
-
-pub none_distinct : HasDistinct [] []
-none_distinct = record { count = refl; same = λ v. refl }
 
 pub any_view : {V : Type 0} (view : V → CellValue) (eq : V → V → Bool) → ((v w : V) → eq v w ≡ value_eq (view v) (view w)) → (v : V) (keys : List V)
     → list_any (eq v) keys ≡ list_any (value_eq (view v)) (map view keys)

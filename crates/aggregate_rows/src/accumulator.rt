@@ -6,12 +6,12 @@ ghost use Rattle.odata_query.specs.declared.aggregate.Aggregate.TheVariants.{Max
 ghost use Rattle.query_meaning.specs.Apply.{computed_value, is_value};
 ghost use Rattle.row_columns.specs.Picked.{numbered};
 ghost use Rattle.aggregate_rows.specs.Computed.{greater_value, lesser_value};
-ghost use Rattle.aggregate_rows.specs.Sums.{numbers_in, sum_of, sums_joined, FitSums, MaySum};
+ghost use Rattle.aggregate_rows.specs.Sums.{numbers_in, sum_of, MaySum};
 ghost use Rattle.aggregate_rows.specs.Tallies.{IsAccumulator, JoinsDistinct, JoinsExtreme, JoinsValues, MayTally, Tallies};
 
 use crate::computed::{greatest, is_null, least};
 use crate::kept::sum_of_rows;
-use crate::sums::Summed;
+use crate::sums::{Summed, joined_sum};
 use cell_types::Value;
 use insertion_map::KeyPlaces;
 use odata_query::Aggregate;
@@ -105,18 +105,6 @@ impl Accumulator {
     }
 }
 
-/// Returns the sum of two sums, each of which there may be none.
-fn joined_sum(sum: Option<i128>, more: Option<i128>) -> Option<i128>
-    requires { FitSums sum more }
-    ensures { result ≡ sums_joined sum more }
-{
-    match (sum, more) {
-        (None, more) => more,
-        (Some(sum), None) => Some(sum),
-        (Some(sum), Some(more)) => Some(sum + more),
-    }
-}
-
 /// Returns the sum of the numbers that some rows and then the rows with these numbers have in a column.
 fn sum_behind(
     sum: Option<i128>,
@@ -149,10 +137,8 @@ fn join_least(
 {
     cell_types::values_are_ordered();
     let other = least(columns, numbers, place);
-    if is_less(&other, value) {
-        *value = owned(alloc, &other)?;
-    }
-    Ok(())
+    let wins = is_less(&other, value);
+    replace_if(wins, value, alloc, &other)
 }
 
 /// Returns the greatest value that some rows and then the rows with these numbers have in a column.
@@ -170,8 +156,22 @@ fn join_greatest(
 {
     cell_types::values_are_ordered();
     let other = greatest(columns, numbers, place);
-    if is_more(&other, value) {
-        *value = owned(alloc, &other)?;
+    let wins = is_more(&other, value);
+    replace_if(wins, value, alloc, &other)
+}
+
+/// Replaces a value by a copy of another one, if that `wins`.
+fn replace_if(
+    wins: bool,
+    value: &mut Value<'static>,
+    alloc: Global,
+    other: &Value<'_>,
+) -> Result<(), AllocError>
+    ensures { OnOk result (value_view value.new
+        ≡ (if wins then value_view other.now else value_view value.old)) }
+{
+    if wins {
+        *value = owned(alloc, other)?;
     }
     Ok(())
 }

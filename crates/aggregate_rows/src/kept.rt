@@ -11,7 +11,7 @@ ghost use Rattle.row_columns.specs.Picked.{numbered};
 ghost use Rattle.aggregate_rows.specs.declared.sums.Summed.{Summed};
 ghost use Rattle.aggregate_rows.specs.Sums.{numbers_at, numbers_in, read_of, sum_of, summed_type, IsKeptAs};
 
-use crate::sums::{Summed, sum_of};
+use crate::sums::{Summed, joined_sum, sum_of};
 use block_summary::{PackedColumn, PackedType};
 use cell_types::Value;
 use query_meaning::extremes_are_values;
@@ -124,12 +124,12 @@ fn part_sum(column: &PackedColumn, numbers: &Selection) -> Option<i128>
     requires { AreSummable (numbers_at column.now numbers.now) (length numbers.now) }
     ensures { result ≡ sum_of (numbers_at column.now numbers.now) }
 {
-    let mut sum: Option<i128> = None;
+    let mut sum = None;
     let mut i = numbers.len();
     while i > 0 {
         i -= 1;
         if let Some(number) = column.number(numbers.at(i)) {
-            sum = Some(number as i128 + sum.unwrap_or(0));
+            sum = joined_sum(Some(number as i128), sum);
         }
     }
     sum

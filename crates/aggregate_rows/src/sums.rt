@@ -4,7 +4,7 @@ ghost use Rattle.std.specs.List.{All};
 ghost use Rattle.query_meaning.specs.Fitting.{AreSummable};
 ghost use Rattle.row_columns.specs.Picked.{numbered};
 ghost use Rattle.row_eval.specs.Row.{cell, decimal_in, integer_in};
-ghost use Rattle.aggregate_rows.specs.Sums.{numbers_in, read_of, sum_of};
+ghost use Rattle.aggregate_rows.specs.Sums.{numbers_in, read_of, sum_of, sums_joined, FitSums};
 
 use cell_types::Value;
 use row_columns::Columns;
@@ -31,15 +31,26 @@ pub(crate) fn sum_of(
         (length numbers.now) }
     ensures { result ≡ sum_of (numbers_in summed place (numbered numbers.now columns.now.rows)) }
 {
-    let mut sum: Option<i128> = None;
+    let mut sum = None;
     let mut i = numbers.len();
     while i > 0 {
         i -= 1;
-        if let Some(number) = number_at(columns, numbers.at(i), place, summed) {
-            sum = Some(number + sum.unwrap_or(0));
-        }
+        sum = joined_sum(number_at(columns, numbers.at(i), place, summed), sum);
     }
     sum
+}
+
+/// Returns the sum of two sums, each of which there may be none.
+#[inline(always)]
+pub(crate) fn joined_sum(sum: Option<i128>, more: Option<i128>) -> Option<i128>
+    requires { FitSums sum more }
+    ensures { result ≡ sums_joined sum more }
+{
+    match (sum, more) {
+        (None, more) => more,
+        (Some(sum), None) => Some(sum),
+        (Some(sum), Some(more)) => Some(sum + more),
+    }
 }
 
 /// Returns the number of that kind that a row has in a column.

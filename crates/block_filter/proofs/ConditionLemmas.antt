@@ -1,5 +1,5 @@
 -- Conditions in turn, on rows and on rows behind them.
-use Rattle.std.proofs.Common.{◌≡◌, Option, Some, None, List, [], ◌∷◌, ◌++◌, refl, sym, ap, ◌∙◌, append-nil}
+use Rattle.std.proofs.Common.{◌≡◌, Option, Some, None, List, [], ◌∷◌, ◌++◌, refl, sym, ap, ◌∙◌}
 use Rattle.std.specs.Prelude.{option_and_then}
 use Rattle.cell_types.specs.Value.{CellValue}
 use Rattle.typed_trees.specs.TypedTree.{TruthExprOf}
@@ -10,10 +10,6 @@ use Rattle.block_filter.specs.Conditions.{rows_joined, passing_all, ConditionsIn
 pub joined_none : (front : Option (List (List CellValue))) → rows_joined front None ≡ None
 joined_none None = refl
 joined_none (Some xs) = refl
-
-pub joined_nothing : (a : Option (List (List CellValue))) → rows_joined a (Some []) ≡ a
-joined_nothing None = refl
-joined_nothing (Some xs) = ap (λ l. Some l) (append-nil xs)
 
 pub none_pass : (es : List TruthExprOf) → passing_all es [] ≡ Some []
 none_pass [] = refl

@@ -35,9 +35,6 @@ pub record AreFirstColumns (rows : List (List CellValue)) (columns : List BlockC
   pub long : length columns ≡ i
   pub each : (place : ℕ) (column : BlockColumn) → place < i → IsColumnOf rows place (get_or columns place column)
 
-pub no_columns_yet : (rows : List (List CellValue)) → AreFirstColumns rows [] 0
-no_columns_yet rows = record { long = refl; each = λ place column h. absurd (omega arith) }
-
 pub one_column_more : (rows : List (List CellValue)) (columns : List BlockColumn) (i : ℕ) (column : BlockColumn) → IsColumnOf rows i column → AreFirstColumns rows columns i
     → AreFirstColumns rows (columns ++ column ∷ []) (i + 1)
 one_column_more rows columns i column is so_far = record {
@@ -128,6 +125,3 @@ one_of_texts rows texts i new is so_far = record {
     ]
   ];
 }
-
-pub no_texts_yet : (rows : List (List CellValue)) → AreTextsTo rows [] 0
-no_texts_yet rows = record { long = refl; each = λ place. subst (AreValuesOf rows place) (sym (get_or_past [] place None (omega arith))) tt }

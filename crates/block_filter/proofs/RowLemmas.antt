@@ -24,9 +24,6 @@ pub record AreNarrowed (e : TruthExprOf) (rows : List (List CellValue)) (was now
   pub left : (k : ℕ) → i ≤ k → get_or now k false ≡ get_or was k false
   pub faulted_is : faulted ≡ list_any (faults e) (marked (take i was) rows)
 
-pub none_narrowed : (e : TruthExprOf) (rows : List (List CellValue)) (was : List Bool) → AreNarrowed e rows was was 0 false
-none_narrowed e rows was = record { done = λ k h. absurd (omega (arith, h)); left = λ k h. refl; faulted_is = refl }
-
 pub all_narrowed : (e : TruthExprOf) (rows : List (List CellValue)) (was now : List Bool) (i : ℕ) (faulted : Bool) → length was ≤ i → length was ≡ length rows
     → AreNarrowed e rows was now i faulted → Narrows e rows was now faulted
 all_narrowed e rows was now i faulted over long so_far = record {

@@ -1,15 +1,14 @@
 -- The keys of more rows are read.
-use Rattle.std.proofs.Common.{◌≡◌, ◌+◌, ◌/◌, ◌<◌, ◌≤◌, ◌^◌, ℕ, List, [], Some, None, get_or, length, min, replicate, take, IsTrue, ◌↔◌, inl, inr, subst, sym, ap, ◌∙◌, arith}
+use Rattle.std.proofs.Common.{◌≡◌, ◌+◌, ◌/◌, ◌<◌, ◌≤◌, ◌^◌, ℕ, List, [], None, get_or, length, min, replicate, take, IsTrue, ◌↔◌, inl, inr, subst, sym, ap, ◌∙◌, arith}
 use Rattle.std.proofs.lemmas.Bool.{cases_lt}
 use Rattle.std.proofs.lemmas.List.{length-map, take_all}
 use Rattle.cell_types.specs.Value.{CellValue, null, value_eq}
 use Rattle.key_index.specs.declared.keys.Keys.TheVariants.{Rising, Slots}
-use Rattle.key_index.specs.declared.keys.KeyFault.TheVariants.{Twice}
 use Rattle.key_index.specs.declared.rising.Rise.{Rise}
 use Rattle.key_index.specs.declared.reading.Seats.{Seats}
 use Rattle.key_index.specs.declared.reading.Held.TheVariants as held_by
 use Rattle.key_index.specs.Key.{null_row, repeated_row, row_key}
-use Rattle.key_index.specs.Keys.{typed_keys, typed_row, AreKeysOf, HasKeyFault}
+use Rattle.key_index.specs.Keys.{typed_keys, typed_row, AreKeysOf}
 use Rattle.key_index.specs.Rising.{AreRising, Rises}
 use Rattle.key_index.specs.Slots.{free, free_slots}
 use Rattle.key_index.specs.Reading.{held_left, SeatsRows}
@@ -54,18 +53,10 @@ module _ (places : List ℕ) (columns : List ColumnCells) (rows : ℕ) (seats : 
         distinct = ap repeated_row (sym all_keys) ∙ sym are.repeated ∙ none;
       }
 
-  pub seats_twice : (row : ℕ) → seats.repeated ≡ Some row → HasKeyFault (typed_keys places columns rows) (Twice row)
-  seats_twice row some = (ap null_row (sym all_keys) ∙ are.whole, ap repeated_row (sym all_keys) ∙ sym are.repeated ∙ some)
-
 -- fewer rows are left
 pub fewer_seats : (places : List ℕ) (columns : List ColumnCells) (rows : ℕ) (seats new : Seats) → new.row ≡ min (length (typed_keys places columns rows)) (seats.row + 4096)
     → new.row < length (typed_keys places columns rows) → held_left rows (held_by.Slots new) < held_left rows (held_by.Slots seats)
 fewer_seats places columns rows seats new is more = omega (arith, is, more, typed_keys-le places columns rows)
-
--- ---- while they rise
-pub fewer_rising : (rows : ℕ) (rise new : Rise) → new.row ≡ min rows (rise.row + 4096) → new.row < rows
-    → held_left rows (held_by.Rising new) < held_left rows (held_by.Rising rise)
-fewer_rising rows rise new is more = omega (arith, is, more)
 
 -- the keys of all rows rise
 pub all_rising : ((a b : CellValue) → IsTrue (value_eq a b) ↔ (a ≡ b)) → (places : List ℕ) (columns : List ColumnCells) (rows : ℕ) (rise : Rise) → rise.row ≡ rows

@@ -4,7 +4,7 @@ use Rattle.std.proofs.lemmas.Bool.{cases_eq, cases_lt, cases_order, cond-false, 
 use Rattle.std.proofs.lemmas.Bool.Decides.{nat_tests}
 use Rattle.std.proofs.lemmas.List.{length-set, get_or_default, get_or-set_same, get_or-set_other}
 use Rattle.std.proofs.lemmas.List.Folds.{sum_by-replicate}
-use Rattle.std.proofs.lemmas.List.Sums.{sum_by-le, sum_by-set}
+use Rattle.std.proofs.lemmas.List.Sums.{sum_by-le}
 use Rattle.std.proofs.lemmas.Nat.{div_below, mod_below, mul-le}
 use Rattle.cell_types.specs.Value.{CellValue}
 use Rattle.key_index.specs.Hashes.{key_hash}
@@ -55,12 +55,6 @@ pub record HaveLooked (slots : List ℕ) (first : ℕ) (raise count : ℕ) (key_
   pub unlike : (p row : ℕ) → first ≤ p → p < place → row < count → slot_at slots p ≡ raise + row → key ≢ key_at row
 
 module _ (slots : List ℕ) (first raise count : ℕ) (key_at : ℕ → List CellValue) (key : List CellValue) where
-  pub looked_none : HaveLooked slots first raise count key_at key first
-  looked_none = record {
-    taken = λ p from to. absurd (omega (arith, from, to));
-    unlike = λ p row from to within holds. absurd (omega (arith, from, to));
-  }
-
   pub looked_more : (place : ℕ) → HaveLooked slots first raise count key_at key place → slot_at slots place ≢ free
       → ((row : ℕ) → row < count → slot_at slots place ≡ raise + row → key ≢ key_at row) → HaveLooked slots first raise count key_at key (place + 1)
   looked_more place looked full other = record {
@@ -168,14 +162,6 @@ count_none slot some = cond-false (slot == free) 1 0 (ne_eqb slot free some)
 
 pub all_free : (n : ℕ) → free_slots (replicate n free) ≡ n
 all_free n = let e : free_slots (replicate n free) ≡ n * count_of free = sum_by-replicate count_of n free in omega (arith, e)
-
-pub fewer_free : (slots : List ℕ) (at held : ℕ) → at < length slots → get_or slots at free ≡ free → held ≢ free → free_slots slots ≡ free_slots (set slots at held) + 1
-fewer_free slots at held within is some =
-    let one : count_of (get_or slots at free) ≡ 1 = ap count_of is in
-    let moved : free_slots (set slots at held) + count_of (get_or slots at free) ≡ free_slots slots + count_of held
-    = sum_by-set count_of slots at held free within in
-    let none = count_none held some in
-    omega (arith, moved, one, none)
 
 pub none_free : (slots : List ℕ) → ((k : ℕ) → k < length slots → get_or slots k free ≢ free) → free_slots slots ≡ 0
 none_free slots full =

@@ -1,9 +1,10 @@
 use Rattle.std.proofs.Common.{◌≡◌, ◌++◌, get_or, length, sym, subst, arith}
+use Rattle.std.proofs.lemmas.List.Elements.{All-from_recursion}
 use Rattle.odata_query.specs.declared.aggregate.Aggregate.TheVariants.{Count}
 use Rattle.row_columns.specs.Picked.{numbered}
 use Rattle.aggregate_rows.specs.declared.accumulator.Accumulator.{Accumulator}
 use Rattle.aggregate_rows.specs.Tallies.{FitsAll, IsAccumulator}
-use Rattle.aggregate_rows.proofs.ListLemmas.{all_at, all_by, from_long, next_by, one_more_by}
+use Rattle.aggregate_rows.proofs.ListLemmas.{all_by, from_long, next_by, one_more_by}
 use Rattle.aggregate_rows.proofs.accumulators.join_each.Goals as goal
 
 pub index_mut-requires : goal.index_mut-requires
@@ -26,7 +27,7 @@ join-requires-clause-joins c =
     record {
       rows = rows;
       accumulator = subst (λ (t : Accumulator). IsAccumulator (get_or aggregates i Count) rows t) (sym c.index_mut.ensures.value) its;
-      fits = all_at (FitsAll (length c.args.columns.now.kinds) (rows ++ more)) aggregates i Count c.requires.joins.fits c.loop-i-test.true;
+      fits = All-from_recursion (FitsAll (length c.args.columns.now.kinds) (rows ++ more)) aggregates c.requires.joins.fits i Count c.loop-i-test.true;
     }
 
 pub loop-i-preserved : goal.loop-i-preserved

@@ -1,35 +1,29 @@
-use Rattle.std.proofs.Common.{◌≡◌, FitsSigned, to_z, of_z, rules, sym, ◌∙◌, ◌+ℤ◌, pos, arith}
-use Rattle.std.specs.Int.{w128}
-use Rattle.std.specs.Option.{unwrap_or}
-use Rattle.std.proofs.lemmas.Int.{to_z-of_z}
-use Rattle.aggregate_rows.specs.Sums.{read_of}
-use Rattle.aggregate_rows.proofs.SumLemmas.{added, fits}
+use Rattle.std.proofs.Common.{◌≡◌, ◌-◌, ℕ, ℤ, Option, [], get_or, length, sym, ap, subst, ◌∙◌, arith}
+use Rattle.row_eval.specs.Row.{cell}
+use Rattle.query_meaning.specs.Fitting.{AreSummable}
+use Rattle.aggregate_rows.specs.Sums.{read_of, sum_of, sums_joined, FitSums}
+use Rattle.aggregate_rows.proofs.SumLemmas.{fits_before, joins_before, read_over}
 use Rattle.aggregate_rows.proofs.sums.sum_of.Goals as goal
 
-pub overflow_add-sum : goal.overflow_add-sum
-overflow_add-sum c =
-    let numbers = c.args.numbers.now in
+pub joined_sum-sum-requires : goal.joined_sum-sum-requires
+joined_sum-sum-requires c =
     let rows = c.args.columns.now.rows in
-    let number = c.in-Some.number in
-    let small : FitsSigned w128 number = search rules in
-    let read : to_z w128 (of_z w128 number) ≡ number = to_z-of_z w128 number small in
-    let other : FitsSigned w128 c.unwrap_or.result = search rules in
-    let read_other : to_z w128 (of_z w128 c.unwrap_or.result) ≡ c.unwrap_or.result = to_z-of_z w128 c.unwrap_or.result other in
-    let is = rw c.at.ensures at (sym c.number_at.ensures ∙ c.in-Some.is) in
-    let sum = fits (read_of c.args.summed) rows numbers c.args.place c.loop-i.i c.loop-i-test.true c.loop-i.invariant.within c.loop-i.sum number is c.loop-i.invariant.sum c.requires.fits in
-    rw (read, read_other, c.unwrap_or.ensures) sum
+    let read : ℕ → Option ℤ = λ n. cell (read_of c.args.summed) (get_or rows n []) c.args.place in
+    let numbers = c.args.numbers.now in
+    let fit = subst (λ ns. AreSummable ns (length numbers)) (read_over (λ row. cell (read_of c.args.summed) row c.args.place) (λ n. get_or rows n []) numbers) c.requires.fits in
+    let number = rw c.at.ensures at c.number_at.ensures in
+    subst (λ o. FitSums o c.loop-i.sum) (sym number)
+    (subst (FitSums (read (get_or numbers (c.loop-i.i - 1) 0))) (sym c.loop-i.invariant.sum) (fits_before read numbers c.loop-i.i 0 c.loop-i-test.true c.loop-i.invariant.within fit))
 
-pub loop-i-preserved-in-Some : goal.loop-i-preserved-in-Some
-loop-i-preserved-in-Some c =
-    let numbers = c.args.numbers.now in
+pub loop-i-preserved : goal.loop-i-preserved
+loop-i-preserved c =
+    let read : ℕ → Option ℤ = λ n. cell (read_of c.args.summed) (get_or c.args.columns.now.rows n []) c.args.place in
+    let before = joins_before read c.args.numbers.now c.loop-i.i 0 c.loop-i-test.true c.loop-i.invariant.within in
+    let number = rw c.at.ensures at c.number_at.ensures in
+    record { within = omega arith; sum = c.joined_sum-sum.ensures ∙ ap (λ o. sums_joined o c.loop-i.sum) number ∙ ap (sums_joined _) c.loop-i.invariant.sum ∙ sym before }
+
+pub returns : goal.returns
+returns c =
     let rows = c.args.columns.now.rows in
-    let number = c.in-Some.number in
-    let small : FitsSigned w128 number = search rules in
-    let read : to_z w128 (of_z w128 number) ≡ number = to_z-of_z w128 number small in
-    let other : FitsSigned w128 c.unwrap_or.result = search rules in
-    let read_other : to_z w128 (of_z w128 c.unwrap_or.result) ≡ c.unwrap_or.result = to_z-of_z w128 c.unwrap_or.result other in
-    let is = rw c.at.ensures at (sym c.number_at.ensures ∙ c.in-Some.is) in
-    let fit = fits (read_of c.args.summed) rows numbers c.args.place c.loop-i.i c.loop-i-test.true c.loop-i.invariant.within c.loop-i.sum number is c.loop-i.invariant.sum c.requires.fits in
-    let more = added (read_of c.args.summed) rows numbers c.args.place c.loop-i.i c.loop-i-test.true c.loop-i.invariant.within c.loop-i.sum number is c.loop-i.invariant.sum in
-    let summed = to_z-of_z w128 (number +ℤ unwrap_or c.loop-i.sum (pos 0)) fit in
-    record { within = omega arith; sum = rw (read, read_other, c.unwrap_or.ensures, summed) more }
+    let zero : c.loop-i.i ≡ 0 = omega arith in
+    (rw zero at c.loop-i.invariant.sum) ∙ ap sum_of (sym (read_over (λ row. cell (read_of c.args.summed) row c.args.place) (λ n. get_or rows n []) c.args.numbers.now))

@@ -1,4 +1,4 @@
-use Rattle.std.proofs.Common.{◌≡◌, map, take}
+use Rattle.std.proofs.Common.{◌≡◌, take}
 use Rattle.std.specs.Hash.FoldHasher.{initial}
 use Rattle.std.specs.List.{fold}
 use Rattle.cell_types.specs.Value.{value_view}
@@ -7,4 +7,4 @@ use Rattle.key_index.proofs.hashes.hash_of.Given as goal
 
 -- the hasher after the values so far
 abbrev pub invariant-loop-value : goal.invariant-loop-value
-invariant-loop-value l = l.hasher ≡ fold hash_cell initial (take l.value-index (map value_view l.key))
+invariant-loop-value l = l.hasher ≡ fold (λ hasher value. hash_cell hasher (value_view value)) initial (take l.value-index l.key)

@@ -1,9 +1,8 @@
 use Rattle.std.proofs.Common.{Some, None, length, refl, sym, ap, ◌∙◌}
+use Rattle.std.proofs.lemmas.Result.{on_ok_weaker}
 use Rattle.odata_query.specs.Query.{optional_numbers}
 use Rattle.row_columns.specs.Picked.{numbered}
-use Rattle.aggregate_rows.specs.Gathered.{Adjoins, JoinsGroups}
 use Rattle.aggregate_rows.proofs.GatheredLemmas.{groups_join, groups_may_join}
-use Rattle.aggregate_rows.proofs.ListLemmas.{on_ok}
 use Rattle.aggregate_rows.proofs.aggregator.Aggregator.join.Goals as goal
 
 pub join_whole-requires-clause-joins : goal.join_whole-requires-clause-joins
@@ -21,5 +20,4 @@ returns-in-None c =
     let old = c.args.self.now in
     let more = numbered c.args.numbers.now c.args.columns.now.rows in
     let new = record old { groups = c.join_whole.new.self } in
-    on_ok (JoinsGroups None c.deref.result.now old.groups c.join_whole.new.self more) (Adjoins old new more)
-    (λ joins. groups_join old new more None c.deref.result.now refl refl (ap optional_numbers c.in-None.is) c.deref.ensures.value joins) c.join_whole.result c.join_whole.ensures
+    on_ok_weaker c.join_whole.result (groups_join old new more None c.deref.result.now refl refl (ap optional_numbers c.in-None.is) c.deref.ensures.value) c.join_whole.ensures

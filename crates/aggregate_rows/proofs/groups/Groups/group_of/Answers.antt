@@ -8,24 +8,19 @@ use Rattle.aggregate_rows.proofs.JoinLemmas.{found_place, key_found, key_new, ne
 use Rattle.aggregate_rows.proofs.KeyLemmas.{any_key, position_key}
 use Rattle.aggregate_rows.proofs.groups.Groups.group_of.Goals as goal
 
-pub returns-in-Some-clause-group : goal.returns-in-Some-clause-group
-returns-in-Some-clause-group c =
+pub returns-in-Some : goal.returns-in-Some
+returns-in-Some c =
     let old = c.args.self.now in
     let values = map value_view c.args.key.now in
     let found : position (same_values values) (keys_held old) ≡ Some c.in-Some.group =
     sym (position_key value_view _ c.values_compare_as_their_views.ensures.equal (λ k. k.items) c.args.key.now old.keys.keys) ∙ sym c.place_of_list.ensures.place ∙ c.in-Some.is in
-    found_place c.values_are_ordered.ensures.equal old values c.in-Some.group found
+    record {
+      group = found_place c.values_are_ordered.ensures.equal old values c.in-Some.group found;
+      more = key_found c.args.aggregates.now old values c.in-Some.group found;
+    }
 
-pub returns-in-Some-clause-more : goal.returns-in-Some-clause-more
-returns-in-Some-clause-more c =
-    let old = c.args.self.now in
-    let values = map value_view c.args.key.now in
-    let found : position (same_values values) (keys_held old) ≡ Some c.in-Some.group =
-    sym (position_key value_view _ c.values_compare_as_their_views.ensures.equal (λ k. k.items) c.args.key.now old.keys.keys) ∙ sym c.place_of_list.ensures.place ∙ c.in-Some.is in
-    key_found c.args.aggregates.now old values c.in-Some.group found
-
-pub returns-in_ok-push-in-None-clause-group : goal.returns-in_ok-push-in-None-clause-group
-returns-in_ok-push-in-None-clause-group c =
+pub returns-in_ok-push-in-None : goal.returns-in_ok-push-in-None
+returns-in_ok-push-in-None c =
     let old = c.args.self.now in
     let keys = old.keys.keys in
     let values = map value_view c.args.key.now in
@@ -35,19 +30,9 @@ returns-in_ok-push-in-None-clause-group c =
     let lacks : list_any (same_values values) (keys_held old) ≡ false =
     sym (any_key value_view _ equal (λ k. k.items) c.args.key.now keys) ∙ sym c.place_of_list.ensures.found ∙ ap is_some c.in-None.is in
     let other = any_key value_view _ equal (λ k. k.items) key.items keys ∙ ap (λ v. list_any (same_values v) (keys_held old)) copied ∙ lacks in
+    let put = c.in_ok-insert-in-None.ensures.keys ∙ ap (λ b. cond b keys (keys ++ key ∷ [])) other in
     let new = record old { keys = c.insert.new.self; accumulators = c.push.new.self } in
-    new_place old new key values copied (c.in_ok-insert-in-None.ensures.keys ∙ ap (λ b. cond b keys (keys ++ key ∷ [])) other) c.len-group.result c.len-group.ensures
-
-pub returns-in_ok-push-in-None-clause-more : goal.returns-in_ok-push-in-None-clause-more
-returns-in_ok-push-in-None-clause-more c =
-    let old = c.args.self.now in
-    let keys = old.keys.keys in
-    let values = map value_view c.args.key.now in
-    let key = c.in_ok-owned_key-in-None.field-0 in
-    let equal = c.values_compare_as_their_views.ensures.equal in
-    let copied = c.in_ok-owned_key-in-None.ensures in
-    let lacks : list_any (same_values values) (keys_held old) ≡ false =
-    sym (any_key value_view _ equal (λ k. k.items) c.args.key.now keys) ∙ sym c.place_of_list.ensures.found ∙ ap is_some c.in-None.is in
-    let other = any_key value_view _ equal (λ k. k.items) key.items keys ∙ ap (λ v. list_any (same_values v) (keys_held old)) copied ∙ lacks in
-    key_new old _ key values copied (c.in_ok-insert-in-None.ensures.keys ∙ ap (λ b. cond b keys (keys ++ key ∷ [])) other) c.args.aggregates.now c.in_ok-accumulators-in-None.accumulators lacks
-    c.in_ok-accumulators-in-None.ensures c.in_ok-push-in-None.ensures.items
+    record {
+      group = new_place old new key values copied put c.len-group.result c.len-group.ensures;
+      more = key_new old new key values copied put c.args.aggregates.now c.in_ok-accumulators-in-None.accumulators lacks c.in_ok-accumulators-in-None.ensures c.in_ok-push-in-None.ensures.items;
+    }

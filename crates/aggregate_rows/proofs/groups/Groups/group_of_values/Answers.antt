@@ -5,14 +5,11 @@ use Rattle.query_meaning.specs.Apply.{values_at}
 use Rattle.aggregate_rows.specs.Gathered.{HasGroupMore, IsGroupOf}
 use Rattle.aggregate_rows.proofs.groups.Groups.group_of_values.Goals as goal
 
-pub returns-clause-group : goal.returns-clause-group
-returns-clause-group c =
+pub returns : goal.returns
+returns c =
     let values = values_at c.args.grouping.places.now (slice_index_or c.args.columns.now.rows c.args.number []) in
     let key : map value_view c.as_slice.result.now ≡ values = ap (map value_view) c.as_slice.ensures.value ∙ c.in_ok-key.ensures in
-    subst (λ k. IfOk c.group_of.result (IsGroupOf c.group_of.new.self k)) key c.group_of.ensures.group
-
-pub returns-clause-more : goal.returns-clause-more
-returns-clause-more c =
-    let values = values_at c.args.grouping.places.now (slice_index_or c.args.columns.now.rows c.args.number []) in
-    let key : map value_view c.as_slice.result.now ≡ values = ap (map value_view) c.as_slice.ensures.value ∙ c.in_ok-key.ensures in
-    subst (λ k. OnOk c.group_of.result (HasGroupMore c.args.grouping.aggregates.now c.args.self.now c.group_of.new.self k)) key c.group_of.ensures.more
+    record {
+      group = subst (λ k. IfOk c.group_of.result (IsGroupOf c.group_of.new.self k)) key c.group_of.ensures.group;
+      more = subst (λ k. OnOk c.group_of.result (HasGroupMore c.args.grouping.aggregates.now c.args.self.now c.group_of.new.self k)) key c.group_of.ensures.more;
+    }

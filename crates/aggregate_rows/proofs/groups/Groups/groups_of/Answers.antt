@@ -1,6 +1,7 @@
 use Rattle.std.proofs.Common.{◌≡◌, ◌<◌, ◌+◌, ◌++◌, ◌∷◌, [], ℕ, List, None, get_or, length, take, sym, ap, subst, ◌∙◌, arith}
 use Rattle.std.specs.Prelude.{IfSome, slice_set}
 use Rattle.std.proofs.lemmas.List.{get_or_read, length-map, length-set, map_more, take_all}
+use Rattle.std.proofs.lemmas.Slice.Zip.{all_zipped_more}
 use Rattle.cell_types.specs.Value.{CellValue}
 use Rattle.query_meaning.specs.Apply.{values_at}
 use Rattle.row_columns.specs.Picked.{numbered}
@@ -10,7 +11,6 @@ use Rattle.aggregate_rows.specs.Parts.{AreBegun, AreGroupsOf, BeginsGroups}
 use Rattle.aggregate_rows.proofs.BegunLemmas.{keep_groups, keeps_group, known_more}
 use Rattle.aggregate_rows.proofs.CodeLemmas.{values-here}
 use Rattle.aggregate_rows.proofs.JoinLemmas.{begun_more, none_more}
-use Rattle.aggregate_rows.proofs.ListLemmas.{zip_push}
 use Rattle.aggregate_rows.proofs.groups.Groups.groups_of.Goals as goal
 
 pub index-requires : goal.index-requires
@@ -79,7 +79,7 @@ loop-i-preserved c =
       found =
           subst (AreGroupsOf new places (numbered (take (i + 1) numbers) rows)) (sym c.in_ok-push.ensures.items)
           (subst (λ rs. AreGroupsOf new places rs (found ++ g ∷ [])) (sym next)
-          (zip_push (λ r h. IsGroupOf new (values_at places r) h) (numbered (take i numbers) rows) found row g
+          (all_zipped_more (λ r h. IsGroupOf new (values_at places r) h) (numbered (take i numbers) rows) found row g
           (keep_groups old new (values_at places row) has.keys places (numbered (take i numbers) rows) found c.loop-i.invariant.found) is));
       known = λ have.
           let coded : i < length (numbered numbers rows) = omega (arith, inside, length-map numbers (λ n. get_or rows n [])) in

@@ -1,5 +1,4 @@
-use Rattle.std.proofs.Common.{◌≡◌, ◌+◌, ℕ, List, Option, length, take}
-use Rattle.std.specs.List.{AllByRecursion}
+use Rattle.std.proofs.Common.{◌≡◌, ℕ, List, Option, take}
 use Rattle.cell_types.specs.Value.{CellValue}
 use Rattle.row_columns.specs.Store.{value_rows}
 use Rattle.aggregate_rows.specs.Gathered.{rows_gathered, HasGroups}
@@ -7,7 +6,5 @@ use Rattle.aggregate_rows.proofs.groups.Groups.rows.Given as goal
 
 -- the rows so far
 abbrev pub invariant-loop-i : goal.invariant-loop-i
-invariant-loop-i l = record {
-  wide : AllByRecursion (λ (row : List CellValue). length row ≡ l.width + length l.aggregates) (value_rows l.rows.items);
-  rows : (places : Option (List ℕ)) (rows : List (List CellValue)) → HasGroups places l.aggregates l.self rows → value_rows l.rows.items ≡ take l.i (rows_gathered places l.aggregates rows);
-}
+invariant-loop-i l = (places : Option (List ℕ)) (rows : List (List CellValue)) → HasGroups places l.aggregates l.self rows
+    → value_rows l.rows.items ≡ take l.i (rows_gathered places l.aggregates rows)
