@@ -15,22 +15,23 @@ use Rattle.cell_types.specs.Value.{CellValue, boolean, decimal, integer, null, t
 use Rattle.typed_trees.specs.declared.operator.ComparisonOperator.{ComparisonOperator}
 use Rattle.typed_trees.specs.declared.operator.ComparisonOperator.TheVariants.{GreaterOrEqual, GreaterThan, NotEqual}
 use Rattle.typed_trees.specs.declared.tree.NumberKind.TheVariants as numbers
-use Rattle.typed_trees.specs.TypedTree.{NumberExprOf, TextExprOf, TruthExprOf, compare_numbers, compare_texts, compare_truths, negation, number_column, text_column, truth_column, truth_view, typed_view}
+use Rattle.typed_trees.specs.TypedTree.{DateExprOf, DayOf, NumberExprOf, TextExprOf, TruthExprOf, compare_numbers, compare_texts, compare_truths, date_column, negation, number_column, number_of_date, text_column, truth_column, truth_view, typed_view}
 use Rattle.typed_trees.specs.declared.tree.TruthExpr.{TruthExpr}
 use Rattle.odata_query.specs.Query.{order_view}
 use Rattle.odata_query.specs.declared.query.OrderBy.{OrderBy}
 use Rattle.row_eval.specs.Bounds.{NumberFits, TruthFits}
-use Rattle.row_eval.specs.Comparison.{compared, holds}
+use Rattle.row_eval.specs.Comparison.{compared, day_cmp, holds}
+use Rattle.row_eval.specs.Laws.{DatesAreCompared, IsCalendarDay}
 use Rattle.row_eval.specs.Logic.{opposite, option_of_truth, truth_of, truth_of_option}
 use Rattle.row_eval.specs.declared.truth.Truth.{Truth}
-use Rattle.row_eval.specs.Outcome.{both, number_outcome, or_null, text_outcome, truth_outcome}
-use Rattle.row_eval.specs.Row.{boolean_in, cell, decimal_in, integer_in, text_in}
+use Rattle.row_eval.specs.Outcome.{both, date_outcome, day_value, number_outcome, or_null, text_outcome, truth_outcome}
+use Rattle.row_eval.specs.Row.{boolean_in, cell, day_in, decimal_in, integer_in, text_in}
 use Rattle.query_meaning.specs.Order.{Item, item_value}
 use Rattle.odata_query.specs.Plain.{plain_at}
 use Rattle.sort_rows.specs.Cutoffs.{first_value, is_before, is_near, may_precede, moved_to, order_between, IsComparison, IsTest, IsTestOfColumn}
 use Rattle.sort_rows.specs.Plain.{column_value, of_kind, IsPlainColumn}
 use Rattle.odata_query.specs.declared.plain.PlainColumn.{PlainColumn}
-use Rattle.sort_rows.proofs.PlainLemmas.{read_there, truth_again, value_is}
+use Rattle.sort_rows.proofs.PlainLemmas.{read_there, then_in_turn, truth_again, value_is}
 
 -- ---- a column, compared with a value
 
@@ -62,7 +63,7 @@ pub integers_compared : (o : ComparisonOperator) (col : ℕ) (operand : NumberEx
     → ((row : List CellValue) → NumberFits operand row) → IsComparison o (plain_at kinds.Integer col) (or_null integer n) (compare_numbers o (number_column numbers.Integer col) operand)
 unfolding value_cmp
 integers_compared o col operand n is fits = record {
-  outcome = λ row.
+  outcome = λ row days.
       ap (both (λ x y. truth_of (holds o (compared int_cmp x y))) (Some (cell integer_in row col))) (is row)
       ∙ ap (λ t. Some t) (there_compared integer int_cmp (λ z. refl) (λ x y. refl) integer_in refl o row col n);
   fits = λ row. (tt, fits row);
@@ -72,9 +73,25 @@ pub decimals_compared : (o : ComparisonOperator) (col : ℕ) (operand : NumberEx
     → ((row : List CellValue) → NumberFits operand row) → IsComparison o (plain_at kinds.Decimal col) (or_null decimal n) (compare_numbers o (number_column numbers.Decimal col) operand)
 unfolding value_cmp
 decimals_compared o col operand n is fits = record {
-  outcome = λ row.
+  outcome = λ row days.
       ap (both (λ x y. truth_of (holds o (compared int_cmp x y))) (Some (cell decimal_in row col))) (is row)
       ∙ ap (λ t. Some t) (there_compared decimal int_cmp (λ z. refl) (λ x y. refl) decimal_in refl o row col n);
+  fits = λ row. (tt, fits row);
+}
+
+-- days are compared as their numbers
+days_in_turn : (a b : DayOf) → value_cmp (day_value a) (day_value b) ≡ day_cmp a b
+unfolding value_cmp
+days_in_turn a b = sym (then_in_turn (int_cmp a.year b.year) (nat_cmp a.month b.month) (nat_cmp a.day b.day))
+
+pub dates_compared : DatesAreCompared → (o : ComparisonOperator) (col : ℕ) (operand : DateExprOf) (day : Option DayOf) → ((row : List CellValue) → date_outcome operand row ≡ day)
+    → IfSome day IsCalendarDay → ((row : List CellValue) → NumberFits (number_of_date operand) row)
+    → IsComparison o (plain_at kinds.Date col) (or_null day_value day) (compare_numbers o (number_column numbers.Date col) (number_of_date operand))
+dates_compared law o col operand day is calendar fits = record {
+  outcome = λ row days.
+      law.comparisons o (date_column col) operand row (days col) (subst (λ d. IfSome d IsCalendarDay) (sym (is row)) calendar)
+      ∙ ap (λ d. Some (truth_of (holds o (compared day_cmp (cell day_in row col) d)))) (is row)
+      ∙ ap (λ t. Some t) (there_compared day_value day_cmp (λ d. refl) days_in_turn day_in refl o row col day);
   fits = λ row. (tt, fits row);
 }
 
@@ -82,7 +99,7 @@ pub texts_compared : (o : ComparisonOperator) (col : ℕ) (operand : TextExprOf)
     → IsComparison o (plain_at kinds.Text col) (or_null text t) (compare_texts o (text_column col) operand)
 unfolding value_cmp
 texts_compared o col operand t is = record {
-  outcome = λ row.
+  outcome = λ row days.
       ap (λ y. Some (truth_of (holds o (compared (slice_cmp nat_cmp) (cell text_in row col) y)))) (is row)
       ∙ ap (λ t. Some t) (there_compared text (slice_cmp nat_cmp) (λ x. refl) (λ x y. refl) text_in refl o row col t);
   fits = λ row. tt;
@@ -96,7 +113,7 @@ pub truths_compared : (o : ComparisonOperator) (col : ℕ) (operand : TruthExprO
     → option_of_truth t ≡ b → ((row : List CellValue) → TruthFits operand row) → IsComparison o (plain_at kinds.Boolean col) (or_null boolean b) (compare_truths o (truth_column col) operand)
 unfolding value_cmp
 truths_compared o col operand t b is same fits = record {
-  outcome = λ row.
+  outcome = λ row days.
       let x = cell boolean_in row col in
       ap (both (λ x y. truth_of (holds o (compared bool_cmp (option_of_truth x) (option_of_truth y)))) (Some (truth_of_option x))) (is row)
       ∙ ap (λ y. Some (truth_of (holds o (compared bool_cmp (option_of_truth (truth_of_option x)) y)))) same
@@ -113,13 +130,13 @@ opposite_truth false = refl
 
 pub test_turned : (column : PlainColumn) (test : CellValue → Bool) (e : TruthExprOf) → IsTestOfColumn column test e → IsTestOfColumn column (λ v. not (test v)) (negation e)
 test_turned column test e is = record {
-  outcome = λ row. ap (option_map opposite) (is.outcome row) ∙ ap (λ t. Some t) (opposite_truth (test (column_value column row)));
+  outcome = λ row days. ap (option_map opposite) (is.outcome row days) ∙ ap (λ t. Some t) (opposite_truth (test (column_value column row)));
   fits = λ row. is.fits row;
 }
 
 pub test_as : (column : PlainColumn) (test other : CellValue → Bool) (e : TruthExprOf) → ((v : CellValue) → test v ≡ other v) → IsTestOfColumn column test e → IsTestOfColumn column other e
 test_as column test other e same is = record {
-  outcome = λ row. is.outcome row ∙ ap (λ b. Some (truth_of b)) (same (column_value column row));
+  outcome = λ row days. is.outcome row days ∙ ap (λ b. Some (truth_of b)) (same (column_value column row));
   fits = is.fits;
 }
 
@@ -141,7 +158,7 @@ null_is v e = absurd (cc)
 pub none_before_null : (column : PlainColumn) (e : TruthExprOf) → ((row : List CellValue) → truth_outcome e row ≡ Some (truth_of false)) → ((row : List CellValue) → TruthFits e row)
     → IsTestOfColumn column (λ v. is_before false v null) e
 none_before_null column e is fits = record {
-  outcome = λ row. is row ∙ ap (λ b. Some (truth_of b)) (sym (null_after (column_value column row)));
+  outcome = λ row days. is row ∙ ap (λ b. Some (truth_of b)) (sym (null_after (column_value column row)));
   fits = fits;
 }
 
@@ -188,9 +205,9 @@ turned false bound v = refl
 item_test : (item : Item) (others : List Item) (column : PlainColumn) (col : ℕ) (test : CellValue → Bool) (e : TruthExprOf) → IsPlainColumn item.0 column
     → IsTestOfColumn (moved_to col column) test e → IsTest (item ∷ others) col (λ row. test (item_value item row)) e
 item_test item others column col test e is tests = record {
-  outcome = λ place row picked at same.
+  outcome = λ place row picked at same days.
       let here : place ≡ column.place = (let both = sym at ∙ is.place in cc) in
-      tests.outcome row
+      tests.outcome row days
       ∙ ap (λ v. Some (truth_of (test v))) (ap (of_kind column.kind) (same ∙ ap (λ p. get_or picked p null) here) ∙ sym (value_is item column is picked));
   fits = tests.fits;
 }

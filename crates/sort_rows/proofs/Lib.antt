@@ -13,3 +13,6 @@ pub mod NearLemmas
 pub mod CutoffLemmas
 pub mod ColumnTestLemmas
 pub mod MergeLemmas
+pub mod RunLemmas
+pub mod RunKeyLemmas
+pub mod StackLemmas

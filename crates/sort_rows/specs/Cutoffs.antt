@@ -1,17 +1,22 @@
 -- Rows that may be among the first in an order, judged by the value of the first item (OData 4.01 URL Conventions, sections 5.1.5 and 5.1.6).
-use Rattle.std.specs.Prelude.{◌≡◌, ◌≤◌, ◌<◌, ◌-◌, ◌++◌, ℕ, Bool, true, false, not, filter, List, [], ◌∷◌, Option, Some, None, get_or, if◌then◌else◌, length, slice_index_or}
+use Rattle.std.specs.Prelude.{◌≡◌, ◌≤◌, ◌<◌, ◌-◌, ◌++◌, ℕ, Bool, true, false, not, filter, IfSome, List, [], ◌∷◌, Option, Some, None, get_or, if◌then◌else◌, length, slice_index_or}
 use Rattle.std.specs.Ordering.{is_lt}
 use Rattle.std.specs.declared.cmp.Ordering.{Ordering}
 use Rattle.std.specs.declared.cmp.Ordering.TheVariants.{Equal}
 use Rattle.block_summary.specs.Ranges.{is_null}
 use Rattle.cell_types.specs.Value.{CellValue, null, value_cmp}
 use Rattle.typed_trees.specs.declared.operator.ComparisonOperator.{ComparisonOperator}
-use Rattle.typed_trees.specs.TypedTree.{TruthExprOf}
+use Rattle.typed_trees.specs.declared.tree.NumberKind.{NumberKind}
+use Rattle.typed_trees.specs.TypedTree.{NumberExprOf, TruthExprOf, compare_numbers, number_column}
 use Rattle.row_eval.specs.Bounds.{TruthFits}
 use Rattle.row_eval.specs.Comparison.{holds}
+use Rattle.row_eval.specs.Laws.{IsCalendarDay}
 use Rattle.row_eval.specs.Logic.{truth_of}
 use Rattle.row_eval.specs.Outcome.{truth_outcome}
+use Rattle.row_eval.specs.Row.{cell, day_in}
 use Rattle.query_meaning.specs.Order.{Item, directed, item_value, ordered, plain_column, rows_cmp, sorted}
+use Rattle.odata_query.specs.Plain.{plain_at}
+use Rattle.odata_query.specs.declared.plain.ColumnKind.{ColumnKind}
 use Rattle.odata_query.specs.declared.plain.PlainColumn.{PlainColumn}
 use Rattle.sort_rows.specs.Best.{best_rows}
 use Rattle.sort_rows.specs.Plain.{column_value}
@@ -41,9 +46,14 @@ abbrev pub is_near : List Item → CellValue → List CellValue → Bool
 is_near [] bound row = true
 is_near (item ∷ items) bound row = not (is_before item.1 bound (item_value item row))
 
+-- the dates of a row are days of the calendar
+abbrev pub HasCalendarDays : List CellValue → Type 0
+HasCalendarDays row = (place : ℕ) → IfSome (cell day_in row place) IsCalendarDay
+
 -- A condition is a test of the rows of which the first item is a column: the condition finds the column's cell at a place of its own. It computes no number.
 pub record IsTest (items : List Item) (col : ℕ) (test : List CellValue → Bool) (e : TruthExprOf) : Type 0 where
-  pub outcome : (place : ℕ) (row picked : List CellValue) → first_place items ≡ Some place → get_or row col null ≡ get_or picked place null → truth_outcome e row ≡ Some (truth_of (test picked))
+  pub outcome : (place : ℕ) (row picked : List CellValue) → first_place items ≡ Some place → get_or row col null ≡ get_or picked place null → HasCalendarDays row
+      → truth_outcome e row ≡ Some (truth_of (test picked))
   pub fits : (row : List CellValue) → TruthFits e row
 
 -- no item divides by zero on any row
@@ -75,9 +85,14 @@ moved_to col column = record column { place = col }
 
 -- a condition is a test of the value of a column, and computes no number
 pub record IsTestOfColumn (column : PlainColumn) (test : CellValue → Bool) (e : TruthExprOf) : Type 0 where
-  pub outcome : (row : List CellValue) → truth_outcome e row ≡ Some (truth_of (test (column_value column row)))
+  pub outcome : (row : List CellValue) → HasCalendarDays row → truth_outcome e row ≡ Some (truth_of (test (column_value column row)))
   pub fits : (row : List CellValue) → TruthFits e row
 
 -- it compares the value with another
 abbrev pub IsComparison : ComparisonOperator → PlainColumn → CellValue → TruthExprOf → Type 0
 IsComparison operator column value e = IsTestOfColumn column (λ v. holds operator (order_between v value)) e
+
+-- a column of a kind is compared with a value as its numbers are with another
+abbrev pub ComparesAs : ColumnKind → CellValue → NumberKind → NumberExprOf → Type 0
+ComparesAs kind value numbers number =
+    (o : ComparisonOperator) (col : ℕ) → IsComparison o (plain_at kind col) value (compare_numbers o (number_column numbers col) number)

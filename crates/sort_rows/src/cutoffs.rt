@@ -4,7 +4,7 @@ ghost use Rattle.std.specs.Prelude.{◌≡◌, ◌<◌, [], Bool, Some, not, IfO
 ghost use Rattle.cell_types.specs.Value.{CellValue, value_view};
 ghost use Rattle.typed_trees.specs.TypedTree.{compare_numbers, compare_texts, compare_truths, number_column, number_view, text_view, truth_view};
 ghost use Rattle.odata_query.specs.Query.{order_view};
-ghost use Rattle.sort_rows.specs.Cutoffs.{first_place as first_place_of, first_value, is_before, is_near, may_precede, moved_to, IsComparison, IsTest, IsTestOfColumn};
+ghost use Rattle.sort_rows.specs.Cutoffs.{first_place as first_place_of, first_value, is_before, is_near, may_precede, moved_to, ComparesAs, IsComparison, IsTest, IsTestOfColumn};
 ghost use Rattle.odata_query.specs.declared.plain.PlainColumn.{PlainColumn as ColumnOf};
 
 use crate::plain::{column_value, item_column};
@@ -12,7 +12,7 @@ use cell_types::Value;
 use odata_query::{ColumnKind, OrderBy, PlainColumn};
 use row_columns::Columns;
 use std::alloc::{AllocError, Global};
-use typed_trees::{ComparisonOperator, NumberExpr, NumberKind, TextExpr, TruthExpr};
+use typed_trees::{ComparisonOperator, NumberExpr, NumberKind, TextExpr, TruthExpr, day_number};
 
 /// Returns the comparison of a column of numbers with an operand.
 fn compare_numbers(
@@ -58,6 +58,30 @@ fn compare_truths(
     Ok(Some(TruthExpr::CompareTruths(operator, left, right)))
 }
 
+/// Returns what the numbers of a column of this kind stand for, and a value of its type or null as such a number. `None` for other kinds and values.
+fn as_number(kind: ColumnKind, value: &Value<'_>) -> Option<(NumberKind, NumberExpr)>
+    ensures { IfSome result
+        (λ made. ComparesAs kind (value_view value.now) made.0 (number_view made.1)) }
+{
+    row_eval::dates_are_compared();
+    match (kind, value) {
+        (ColumnKind::Integer, Value::Int(number)) => {
+            Some((NumberKind::Integer, NumberExpr::Literal(*number)))
+        }
+        (ColumnKind::Integer, Value::Null) => Some((NumberKind::Integer, NumberExpr::Null)),
+        (ColumnKind::Decimal, Value::Decimal(number)) => {
+            Some((NumberKind::Decimal, NumberExpr::Literal(*number)))
+        }
+        (ColumnKind::Decimal, Value::Null) => Some((NumberKind::Decimal, NumberExpr::Null)),
+        (ColumnKind::Date, Value::Date(date)) => {
+            let day = i128::from(day_number(*date));
+            Some((NumberKind::Date, NumberExpr::Literal(day)))
+        }
+        (ColumnKind::Date, Value::Null) => Some((NumberKind::Date, NumberExpr::Null)),
+        _ => None,
+    }
+}
+
 /// Returns the comparison of a column with a value of its type or null, or `None` for a value of another type.
 fn comparison(
     alloc: Global,
@@ -68,21 +92,8 @@ fn comparison(
     ensures { IfOk result (λ made. IfSome made
         (λ e. IsComparison operator column (value_view value.now) (truth_view e))) }
 {
-    use NumberKind::{Decimal, Integer};
     let col = column.place;
     match (column.kind, value) {
-        (ColumnKind::Integer, Value::Int(number)) => {
-            compare_numbers(alloc, operator, Integer, col, NumberExpr::Literal(*number))
-        }
-        (ColumnKind::Integer, Value::Null) => {
-            compare_numbers(alloc, operator, Integer, col, NumberExpr::Null)
-        }
-        (ColumnKind::Decimal, Value::Decimal(number)) => {
-            compare_numbers(alloc, operator, Decimal, col, NumberExpr::Literal(*number))
-        }
-        (ColumnKind::Decimal, Value::Null) => {
-            compare_numbers(alloc, operator, Decimal, col, NumberExpr::Null)
-        }
         (ColumnKind::Text, Value::Text(text)) => {
             let text = TextExpr::Literal(String::from_str(alloc, text.as_str())?);
             compare_texts(alloc, operator, TextExpr::Column(col), text)
@@ -97,7 +108,10 @@ fn comparison(
         (ColumnKind::Boolean, Value::Null) => {
             compare_truths(alloc, operator, TruthExpr::Column(col), TruthExpr::Null)
         }
-        _ => Ok(None),
+        (kind, value) => match as_number(kind, value) {
+            Some((kind, operand)) => compare_numbers(alloc, operator, kind, col, operand),
+            None => Ok(None),
+        },
     }
 }
 

@@ -1,41 +1,11 @@
 use Rattle.std.proofs.Common.{◌≡◌, None, Some, ap, refl, rules}
 use Rattle.odata_query.specs.declared.plain.ColumnKind.TheVariants as kinds
-use Rattle.cell_types.specs.Value.{boolean, decimal, integer, null, text, value_view}
-use Rattle.typed_trees.specs.TypedTree.{null_number, null_text, null_truth, number_literal, text_literal, truth_literal}
-use Rattle.sort_rows.proofs.ColumnTestLemmas.{compared_as, decimals_compared, integers_compared, texts_compared, truth_operand, truths_compared}
+use Rattle.cell_types.specs.Value.{boolean, null, text, value_view}
+use Rattle.typed_trees.specs.TypedTree.{null_text, null_truth, text_literal, truth_literal}
+use Rattle.sort_rows.proofs.ColumnTestLemmas.{compared_as, texts_compared, truth_operand, truths_compared}
 use Rattle.row_eval.specs.Logic.{truth_of}
 use Rattle.row_eval.specs.declared.truth.Truth.TheVariants.{Null}
 use Rattle.sort_rows.proofs.cutoffs.comparison.Goals as goal
-
-pub returns-in-Integer-Int : goal.returns-in-Integer-Int
-returns-in-Integer-Int c =
-    let o = c.args.operator in
-    let col = c.args.column.place in
-    let n = c.in-Integer-Int.number in
-    compared_as c.compare_numbers.result o c.args.column kinds.Integer (value_view c.args.value.now) (integer n) _ c.in-Integer-Int.is-0 (ap value_view c.in-Integer-Int.is-1)
-    (integers_compared o col (number_literal n) (Some n) (λ row. refl) (λ row. tt)) (search rules)
-
-pub returns-in-Integer-Null : goal.returns-in-Integer-Null
-returns-in-Integer-Null c =
-    let o = c.args.operator in
-    let col = c.args.column.place in
-    compared_as c.compare_numbers-in-Integer-Null.result o c.args.column kinds.Integer (value_view c.args.value.now) null _ c.in-Integer-Null.is-0 (ap value_view c.in-Integer-Null.is-1)
-    (integers_compared o col null_number None (λ row. refl) (λ row. tt)) c.compare_numbers-in-Integer-Null.ensures
-
-pub returns-in-Decimal-Decimal : goal.returns-in-Decimal-Decimal
-returns-in-Decimal-Decimal c =
-    let o = c.args.operator in
-    let col = c.args.column.place in
-    let n = c.in-Decimal-Decimal.number in
-    compared_as c.compare_numbers-in-Decimal-Decimal.result o c.args.column kinds.Decimal (value_view c.args.value.now) (decimal n) _ c.in-Decimal-Decimal.is-0 (ap value_view c.in-Decimal-Decimal.is-1)
-    (decimals_compared o col (number_literal n) (Some n) (λ row. refl) (λ row. tt)) (search rules)
-
-pub returns-in-Decimal-Null : goal.returns-in-Decimal-Null
-returns-in-Decimal-Null c =
-    let o = c.args.operator in
-    let col = c.args.column.place in
-    compared_as c.compare_numbers-in-Decimal-Null.result o c.args.column kinds.Decimal (value_view c.args.value.now) null _ c.in-Decimal-Null.is-0 (ap value_view c.in-Decimal-Null.is-1)
-    (decimals_compared o col null_number None (λ row. refl) (λ row. tt)) c.compare_numbers-in-Decimal-Null.ensures
 
 pub returns-in_ok-from_str-in-Text-Text : goal.returns-in_ok-from_str-in-Text-Text
 returns-in_ok-from_str-in-Text-Text c =
@@ -67,3 +37,10 @@ returns-in-Boolean-Null c =
     let col = c.args.column.place in
     compared_as c.compare_truths-in-Boolean-Null.result o c.args.column kinds.Boolean (value_view c.args.value.now) null _ c.in-Boolean-Null.is-0 (ap value_view c.in-Boolean-Null.is-1)
     (truths_compared o col null_truth Null None (λ row. refl) refl (λ row. tt)) c.compare_truths-in-Boolean-Null.ensures
+
+pub returns-in-Some : goal.returns-in-Some
+returns-in-Some c =
+    let o = c.args.operator in
+    let column = c.args.column in
+    let value = value_view c.args.value.now in
+    compared_as c.compare_numbers.result o column column.kind value value _ refl refl (c.in-Some.ensures o column.place) c.compare_numbers.ensures
