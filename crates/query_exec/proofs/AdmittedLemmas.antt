@@ -4,7 +4,8 @@ use Rattle.std.specs.Prelude.{count_by, filter, nat_lt, slice_index_or}
 use Rattle.std.specs.List.{All, range_with_len}
 use Rattle.std.proofs.lemmas.Bool.{cases_lt, lt-ltb}
 use Rattle.std.proofs.lemmas.List.{get_or_default, get_or_past, length-drop, length-take}
-use Rattle.std.proofs.lemmas.List.Elements.{All-drop, All-take}
+use Rattle.std.proofs.lemmas.List.Elements.{All-drop, All-take, filter-append}
+use Rattle.std.proofs.lemmas.List.FromFn.{get_or-range_with_len, length-range_with_len}
 use Rattle.std.proofs.lemmas.List.Sums.{length-filter}
 use Rattle.block_summary.specs.declared.block.TheConstants.{BLOCK_ROWS}
 use Rattle.block_summary.specs.declared.test.Comparison.{Comparison}
@@ -30,15 +31,6 @@ range_more a (suc n) =
     let shifted : a + 1 + n ≡ a + suc n = omega arith in
     rw one (ap (λ ns. a ∷ ns) (range_more (a + 1) n ∙ ap (λ k. range_with_len (a + 1) n ++ k ∷ []) shifted))
 
-filter_push : (p : ℕ → Bool) (ns : List ℕ) (n : ℕ) → filter p (ns ++ n ∷ []) ≡ filter p ns ++ cond (p n) (n ∷ []) []
-filter_push p [] n = refl
-filter_push p (m ∷ ns) n = kept (p m) (filter_push p ns n)
-  where
-    kept : (b : Bool) → filter p (ns ++ n ∷ []) ≡ filter p ns ++ cond (p n) (n ∷ []) []
-        → cond b (m ∷ filter p (ns ++ n ∷ [])) (filter p (ns ++ n ∷ [])) ≡ cond b (m ∷ filter p ns) (filter p ns) ++ cond (p n) (n ∷ []) []
-    kept true e = ap (λ ks. m ∷ ks) e
-    kept false e = e
-
 -- the numbers so far are those of the first summaries that admit the tests
 abbrev pub AreAdmitted : List TestOf → List (List RangeOf) → ℕ → List ℕ → Type 0
 AreAdmitted tests summaries i numbers = numbers ≡ filter (λ n. ranges_admit tests (slice_index_or summaries n [])) (range_with_len 0 i)
@@ -49,7 +41,7 @@ module _ (tests : List TestOf) (summaries : List (List RangeOf)) (i : ℕ) (rang
   one_more =
       let p : ℕ → Bool = λ n. ranges_admit tests (slice_index_or summaries n []) in
       let start : 0 + i ≡ i = omega arith in
-      ap (filter p) (range_more 0 i ∙ ap (λ k. range_with_len 0 i ++ k ∷ []) start) ∙ filter_push p (range_with_len 0 i) i
+      ap (filter p) (range_more 0 i ∙ ap (λ k. range_with_len 0 i ++ k ∷ []) start) ∙ filter-append p (range_with_len 0 i) (i ∷ [])
       ∙ ap (λ ns. ns ++ cond (p i) (i ∷ []) []) (sym so_far)
       ∙ ap (λ (rs : List RangeOf). numbers ++ cond (ranges_admit tests rs) (i ∷ []) []) (get_or_default summaries i [] ranges inside ∙ sym at)
 
@@ -119,11 +111,6 @@ same_filter p q (n ∷ ns) each =
     ap (λ b. cond b (n ∷ filter p ns) (filter p ns)) (each 0 n (omega arith))
     ∙ ap (λ ks. cond (q n) (n ∷ ks) ks) (same_filter p q ns (λ k d h. each (suc k) d (omega (arith, h))))
 
-in_range : (a n k d : ℕ) → k < length (range_with_len a n) → get_or (range_with_len a n) k d < a + n
-in_range a zero k d h = absurd (omega (arith, h))
-in_range a (suc n) zero d h = omega arith
-in_range a (suc n) (suc k) d h = let less = in_range (a + 1) n k d (omega (arith, h)) in omega (arith, less)
-
 row_width : (columns : List ColumnOf) (row : List CellValue) → IsTableRow columns row → length row ≡ length columns
 row_width [] [] is = refl
 row_width [] (v ∷ row) is = absurd is
@@ -148,10 +135,11 @@ admitted_are law tests table summaries fit are =
     ∙ same_filter (λ k. ranges_admit tests (slice_index_or summaries k [])) (λ k. admits_all tests (block_at rows k)) (block_numbers rows)
     (λ k d h.
     let number = get_or (block_numbers rows) k d in
-    let less : number < 0 + block_count (length rows) = in_range 0 (block_count (length rows)) k d h in
+    let inside : k < block_count (length rows) = omega (arith, h, length-range_with_len 0 (block_count (length rows))) in
+    let less : number < block_count (length rows) = omega (arith, inside, get_or-range_with_len 0 (block_count (length rows)) k d inside) in
     let count = are.count in
     let known = are.each number (omega (arith, less, count)) in
     let each = All-take (IsTableRow columns) BLOCK_ROWS (drop (number * BLOCK_ROWS) rows) (All-drop (IsTableRow columns) (number * BLOCK_ROWS) rows fit.each) in
     same_tests law (slice_index_or summaries number []) (block_at rows number) known.each
     (λ j e g. row_width columns (get_or (block_at rows number) j e) (each j e g) ∙ sym known.width)
-    (some_rows rows number (omega (arith, less))) tests)
+    (some_rows rows number less) tests)

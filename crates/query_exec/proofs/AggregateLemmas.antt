@@ -1,9 +1,9 @@
 -- Aggregates of rows, or of groups of them.
-use Rattle.std.proofs.Common.{◌≡◌, ℕ, ◌<◌, ◌^◌, Option, Some, None, List, [], ◌∷◌, ◌++◌, append-nil, length, map, refl, sym, ap, ◌∙◌, subst, arith}
+use Rattle.std.proofs.Common.{◌≡◌, ℕ, ◌<◌, ◌^◌, Option, Some, None, List, [], ◌∷◌, ◌++◌, append-nil, length, map, refl, sym, ap, ◌∙◌, subst}
 use Rattle.std.specs.Prelude.{IfSome, option_and_then}
 use Rattle.std.specs.Borrow.{Bor}
 use Rattle.std.specs.List.{All}
-use Rattle.std.proofs.lemmas.List.{get_or_default, length-append, length-map}
+use Rattle.std.proofs.lemmas.List.{length-append, length-map}
 use Rattle.std.proofs.lemmas.List.Elements.{recursion_from_All}
 use Rattle.cell_types.specs.Value.{CellValue}
 use Rattle.odata_query.specs.declared.aggregate.Aggregate.{Aggregate}
@@ -21,17 +21,15 @@ use Rattle.aggregate_rows.specs.Gathered.{gathered_rows, gathered_width, lent_pl
 use Rattle.aggregate_rows.specs.Tallies.{FitsAll}
 use Rattle.block_filter.specs.declared.block.Passed.{Passed}
 use Rattle.query_exec.specs.declared.aggregate.AggregateSink.{AggregateSink}
-use Rattle.query_exec.specs.declared.intermediate.Intermediate.{Intermediate}
 use Rattle.query_exec.specs.declared.kept.Kept.{Kept}
 use Rattle.query_exec.specs.declared.sink.Sink.TheVariants as sink
-use Rattle.query_exec.specs.Intermediate.{aggregate_node, intermediate_view, without_count, AreAllNumbers, IsIntermediate, Makes}
+use Rattle.query_exec.specs.Steps.{aggregate_node, without_count}
 use Rattle.query_exec.specs.Kept.{kept_names, kept_places, HasKept, HasSameColumns}
 use Rattle.query_exec.specs.Picked.{selected_rows}
-use Rattle.query_exec.specs.Sink.{HasGathered, MayPush, PushesOn, SinkMakes}
+use Rattle.query_exec.specs.Sink.{HasGathered, MayPush, PushesOn, SinkGives}
 use Rattle.query_exec.proofs.CountLemmas.{selected_long, selected_numbered}
-use Rattle.query_exec.proofs.EveryLemmas.{first_all}
 use Rattle.query_exec.proofs.KeptLemmas.{as_many}
-use Rattle.query_exec.proofs.StepLemmas.{all_numbered}
+use Rattle.row_columns.proofs.NumberedLaws.{all_numbered, all_within}
 
 -- ---- the step
 
@@ -53,13 +51,13 @@ aggregate_made None aggregates r = refl
 aggregate_made (Some places) aggregates r = refl
 
 -- and where it is made
-pub aggregate_makes : (places : Option (List ℕ)) (aggregates : List NamedAggregateOf) (r : ResultOf) (names : List (List ℕ)) (rows : List (List CellValue)) (made : Intermediate)
-    → names ≡ node_names (aggregate_node places aggregates) r.names → rows ≡ gathered_rows places aggregates r.rows
-    → intermediate_view made ≡ record { names = names; rows = rows; count = r.count } → IsIntermediate made → Makes (node_result (aggregate_node places aggregates) r) made
-aggregate_makes places aggregates r names rows made n w view is =
-    let whole : intermediate_view made ≡ record r { names = node_names (aggregate_node places aggregates) r.names; rows = gathered_rows places aggregates r.rows } =
-    view ∙ ap (λ ns. record r { names = ns; rows = rows }) n ∙ ap (λ rs. record r { names = node_names (aggregate_node places aggregates) r.names; rows = rs }) w in
-    record { result = aggregate_made places aggregates r ∙ ap Some (sym whole); intermediate = is }
+pub aggregate_makes : (places : Option (List ℕ)) (aggregates : List NamedAggregateOf) (r made : ResultOf)
+    → made.names ≡ node_names (aggregate_node places aggregates) r.names → made.rows ≡ gathered_rows places aggregates r.rows → made.count ≡ r.count
+    → node_result (aggregate_node places aggregates) r ≡ Some made
+aggregate_makes places aggregates r made names rows count =
+    aggregate_made places aggregates r
+    ∙ ap (λ ns. Some (record r { names = ns; rows = gathered_rows places aggregates r.rows })) (sym names) ∙ ap (λ rs. Some (record r { names = made.names; rows = rs })) (sym rows)
+    ∙ ap (λ n. Some (record made { count = n })) (sym count)
 
 -- it fits a result of so many columns
 aggregate_fits : (r : ResultOf) (width : ℕ) → length r.names ≡ width → length r.rows < 2 ^ 64 → (a : Aggregate) → AggregateFits r a → FitsAll width r.rows a
@@ -140,14 +138,8 @@ aggregate_pushed old new rows more found places aggregates columns none more_is 
 
 -- ---- the rows of a block, and the end
 
-all_are : (numbers : List ℕ) (len : ℕ) → numbers ≡ numbers_from 0 len → AreAllNumbers numbers len
-all_are numbers len is = subst (λ ns. AreAllNumbers ns len) (sym is) (first_all len)
-
 pub numbers_within : (numbers : List ℕ) (len : ℕ) → numbers ≡ numbers_from 0 len → All (λ n. n < len) numbers
-numbers_within numbers len is = λ k d h.
-    let all = all_are numbers len is in
-    let inside : k < len = omega (arith, h, all.count) in
-    subst (λ n. n < len) (sym (get_or_default numbers k d 0 h ∙ all.each k inside)) inside
+numbers_within numbers len is = subst (All (λ n. n < len)) (sym is) (all_within len)
 
 module _ (old : AggregateSink) (kept : Kept) (block : TableOf) (found : Passed) (numbers : List ℕ) (may : MayPush (sink.Aggregate old) block found)
     (has : HasKept old.kept kept (selected_rows (kept_places old.kept) (numbered numbers block.rows))) (is : numbers ≡ numbers_from 0 (length block.rows)) where
@@ -155,7 +147,7 @@ module _ (old : AggregateSink) (kept : Kept) (block : TableOf) (found : Passed) 
   kept_rows : kept.columns.rows ≡ selected_rows (kept_places old.kept) block.rows
   kept_rows =
       has.rows ∙ ap (λ rs. rs ++ selected_rows (kept_places old.kept) (numbered numbers block.rows)) may.pushed.none
-      ∙ ap (selected_rows (kept_places old.kept)) (all_numbered numbers block.rows (all_are numbers (length block.rows) is))
+      ∙ ap (selected_rows (kept_places old.kept)) (ap (λ ns. numbered ns block.rows) is ∙ all_numbered block.rows)
 
   pub found_within : All (λ n. n < length kept.columns.rows) found.rows
   found_within =
@@ -176,20 +168,15 @@ module _ (old : AggregateSink) (kept : Kept) (block : TableOf) (found : Passed) 
       (sym (as_many old.kept block.schema may.columns) ∙ sym (ap length has.same.kinds)) may.few may.fits.0)
 
 -- what is gathered of all rows that joined, under its names
-pub gathered_finishes : (s : AggregateSink) (names : List (List ℕ)) (rows : List (List CellValue)) (made : Intermediate)
-    → names ≡ node_names (aggregate_node (optional_numbers s.places) (aggregates_view s.aggregates)) (kept_names s.kept) → HasGatheredRows s.aggregator rows
-    → intermediate_view made ≡ without_count names rows → IsIntermediate made → SinkMakes (sink.Aggregate s) made
-gathered_finishes s names rows made names_are gathered view is = record {
-  makes = λ all has.
+pub gathered_finishes : (s : AggregateSink) (made : ResultOf)
+    → made.names ≡ node_names (aggregate_node (optional_numbers s.places) (aggregates_view s.aggregates)) (kept_names s.kept) → HasGatheredRows s.aggregator made.rows
+    → made.count ≡ None → SinkGives (sink.Aggregate s) made
+gathered_finishes s made names gathered count = record {
+  gives = λ all has.
       let places = optional_numbers s.places in
       let aggregates = aggregates_view s.aggregates in
-      record {
-        result =
-            ap (option_and_then (nodes_result [])) (aggregate_made places aggregates (without_count (kept_names s.kept) all))
-            ∙ ap (λ ns. Some (without_count ns (gathered_rows places aggregates all))) (sym names_are)
-            ∙ ap (λ rs. Some (without_count names rs)) (sym (gathered places aggregates all has.gathers)) ∙ ap (λ r. Some r) (sym view);
-        intermediate = is;
-      };
+      ap (option_and_then (nodes_result []))
+      (aggregate_makes places aggregates (without_count (kept_names s.kept) all) made names (gathered places aggregates all has.gathers) count);
 }
 
 -- ---- what an answer has

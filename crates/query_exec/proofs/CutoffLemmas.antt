@@ -17,7 +17,7 @@ use Rattle.query_meaning.specs.Filter.{is_true, passes}
 use Rattle.query_meaning.specs.Order.{Item}
 use Rattle.row_columns.specs.Picked.{numbered, values_at}
 use Rattle.sort_rows.specs.Best.{best_rows}
-use Rattle.sort_rows.specs.Cutoffs.{first_value, is_near, may_precede, ComesLate, IsTest, NeverFault, RowsAreCutOff}
+use Rattle.sort_rows.specs.Cutoffs.{first_value, is_near, may_precede, ComesLate, HasCalendarDays, IsTest, NeverFault, RowsAreCutOff}
 use Rattle.query_exec.specs.declared.kept.Kept.{Kept}
 use Rattle.query_exec.specs.declared.top_n.TopNSink.{TopNSink}
 use Rattle.query_exec.specs.Cutoffs.{selected_row, CutsOff, HasCutoff, IsFirstColumn, IsSourceOf}
@@ -26,6 +26,7 @@ use Rattle.query_exec.specs.Picked.{selected_rows}
 use Rattle.query_exec.specs.Sink.{sink_items}
 use Rattle.query_exec.specs.TopN.{AreFirst, AreTimely}
 use Rattle.query_exec.proofs.CountLemmas.{selected_long}
+use Rattle.query_exec.proofs.DayLemmas.{days_at}
 
 -- ---- the first column
 
@@ -51,9 +52,9 @@ cuts_off law items most col kept rows e never best some enough first tests =
     let test = may_precede items (first_value items (get_or kept.columns.rows (most - 1) [])) in
     record {
       fits = tests.fits;
-      late = λ row out.
+      late = λ row days out.
           let picked = selected_row (kept_places kept) row in
-          let is = tests.outcome first.place row picked first.first (source_cell (kept_places kept) first.place col row first.source) in
+          let is = tests.outcome first.place row picked first.first (source_cell (kept_places kept) first.place col row first.source) days in
           law.late items most rows kept.columns.rows picked never best some enough (sym (true_as (test picked)) ∙ sym (ap is_true is) ∙ out);
     }
 
@@ -78,10 +79,10 @@ late_after_more items most front more row late between others =
 pub cuts_off_more : (items : List Item) (most : ℕ) (old new : Kept) (more : List (List CellValue)) (e : TruthExprOf) → HasKept old new more → CutsOff items most old e → CutsOff items most new e
 cuts_off_more items most old new more e kept cuts = record {
   fits = cuts.fits;
-  late = λ row out.
+  late = λ row days out.
       subst (λ (ps : _). ComesLate items most new.columns.rows (selected_row (optional_numbers ps) row)) (sym kept.same.places)
       (subst (λ rs. ComesLate items most rs (selected_row (kept_places old) row)) (sym kept.rows)
-      (late_after_more items most old.columns.rows more (selected_row (kept_places old) row) (cuts.late row out)));
+      (late_after_more items most old.columns.rows more (selected_row (kept_places old) row) (cuts.late row days out)));
 }
 
 pub cutoff_more : (s : TopNSink) (new : Kept) (more : List (List CellValue)) → HasKept s.kept new more → HasCutoff s → HasCutoff (record s { kept = new })
@@ -139,9 +140,10 @@ module _ (places : Option (List ℕ)) (rows : List (List CellValue)) (p : ℕ �
       ]
 
 -- the rows on which the condition is true are enough
-pub passing_are_timely : (s : TopNSink) (e : TruthExprOf) (rows : List (List CellValue)) (numbers made : List ℕ) → CutsOff (sink_items s) s.most s.kept e → All (λ n. n < length rows) numbers
+pub passing_are_timely : (s : TopNSink) (e : TruthExprOf) (rows : List (List CellValue)) (numbers made : List ℕ) → CutsOff (sink_items s) s.most s.kept e → All HasCalendarDays rows
+    → All (λ n. n < length rows) numbers
     → made ≡ filter (λ n. passes e (get_or rows n [])) numbers → AreTimely s rows numbers made
-passing_are_timely s e rows numbers made cuts within is =
+passing_are_timely s e rows numbers made cuts days within is =
     let p : ℕ → Bool = λ n. passes e (get_or rows n []) in
     let P : List CellValue → Type 0 = λ row. All (λ item. NumbersFit item.0 row) (sink_items s) in
     let places = kept_places s.kept in
@@ -151,7 +153,7 @@ passing_are_timely s e rows numbers made cuts within is =
           (AllByRecursion-filter (λ n. n < length rows) p numbers (recursion_from_All (λ n. n < length rows) numbers within));
       first =
           ap (λ rs. best_rows (sink_items s) s.most (rs ++ listed places rows p (filter p numbers))) (sym (append-nil s.kept.columns.rows))
-          ∙ late_left_out places rows p (sink_items s) s.most s.kept.columns.rows (λ n out. cuts.late (get_or rows n []) out) [] numbers
+          ∙ late_left_out places rows p (sink_items s) s.most s.kept.columns.rows (λ n out. cuts.late (get_or rows n []) (days_at rows days n) out) [] numbers
           ∙ ap (λ rs. best_rows (sink_items s) s.most (rs ++ listed places rows p numbers)) (append-nil s.kept.columns.rows);
       fit = λ all.
           All-from_recursion P (selected_rows places (numbered (filter p numbers) rows))
@@ -180,16 +182,16 @@ module _ (places : Option (List ℕ)) (rows : List (List CellValue)) (p : ℕ �
 
 -- the rows that are near are enough, if they are as many as are asked for
 pub near_are_timely : RowsAreCutOff → (s : TopNSink) (e : TruthExprOf) (col : ℕ) (bound : CellValue) (rows : List (List CellValue)) (numbers made : List ℕ) → NeverFault (sink_items s)
-    → IsFirstColumn (sink_items s) s.kept col → IsTest (sink_items s) col (is_near (sink_items s) bound) e → All (λ n. n < length rows) numbers
+    → IsFirstColumn (sink_items s) s.kept col → IsTest (sink_items s) col (is_near (sink_items s) bound) e → All HasCalendarDays rows → All (λ n. n < length rows) numbers
     → made ≡ filter (λ n. passes e (get_or rows n [])) numbers → s.most ≤ length made → AreTimely s rows numbers made
-near_are_timely law s e col bound rows numbers made never first tests within is enough =
+near_are_timely law s e col bound rows numbers made never first tests days within is enough =
     let p : ℕ → Bool = λ n. passes e (get_or rows n []) in
     let q : List CellValue → Bool = is_near (sink_items s) bound in
     let P : List CellValue → Type 0 = λ row. All (λ item. NumbersFit item.0 row) (sink_items s) in
     let places = kept_places s.kept in
     let alike : (n : ℕ) → p n ≡ q (selected_row places (get_or rows n [])) = λ n.
     let row = get_or rows n [] in
-    ap is_true (tests.outcome first.place row (selected_row places row) first.first (source_cell places first.place col row first.source)) ∙ true_as (q (selected_row places row)) in
+    ap is_true (tests.outcome first.place row (selected_row places row) first.first (source_cell places first.place col row first.source) (days_at rows days n)) ∙ true_as (q (selected_row places row)) in
     let all = selected_rows places (numbered numbers rows) in
     let same : selected_rows places (numbered (filter p numbers) rows) ≡ filter q all = listed_filtered places rows p q alike numbers in
     let long : length made ≡ length (filter q all) =

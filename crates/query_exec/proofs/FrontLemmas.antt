@@ -12,11 +12,11 @@ use Rattle.query_exec.specs.declared.front.FirstRows.{FirstRows}
 use Rattle.query_exec.specs.declared.kept.Kept.{Kept}
 use Rattle.query_exec.specs.declared.run.Run.{Run}
 use Rattle.query_exec.specs.declared.sink.Sink.{Sink}
-use Rattle.query_exec.specs.declared.sink.Sink.TheVariants.{Aggregate, Collect, Slice, TopN}
-use Rattle.query_exec.specs.Intermediate.{without_count}
+use Rattle.query_exec.specs.declared.sink.Sink.TheVariants.{Aggregate, Collect, Slice, Sorted, TopN}
+use Rattle.query_exec.specs.Steps.{without_count}
 use Rattle.query_exec.specs.Kept.{kept_names, AreKeptRows}
-use Rattle.query_exec.specs.Run.{handed_rows, passed_answer, passed_rows, steps_of, AreFirstRows, IsRunAnswer, StandsFor}
-use Rattle.query_exec.specs.Sink.{sink_kept, sink_nodes, HasPushed, LendsKept, SinkGives}
+use Rattle.query_exec.specs.Run.{handed_rows, passed_answer, passed_rows, steps_of, AreFirstRows, StandsFor}
+use Rattle.query_exec.specs.Sink.{sink_kept, sink_nodes, HasPushed, LendsKept}
 use Rattle.query_exec.proofs.KeptLemmas.{as_many}
 use Rattle.query_exec.proofs.ReadLemmas.{answer_is, handed_parts, no_steps, passed_parts, read_rows}
 use Rattle.query_exec.proofs.RunLemmas.{some_passed}
@@ -33,6 +33,7 @@ lent_width : (sink : Sink) (front : FirstRows) → LendsKept sink (Some front) �
 lent_width (Collect kept) front lends wide = kept_width kept front lends wide
 lent_width (Slice sink) front lends wide = kept_width sink.kept front lends wide
 lent_width (TopN sink) front lends wide = absurd lends
+lent_width (Sorted sink) front lends wide = absurd lends
 lent_width (Aggregate sink) front lends wide = absurd lends
 
 -- what its step makes of more rows begins with that
@@ -64,16 +65,8 @@ lent_first (Slice sink) pushed more front rows has lends made =
     rows_in None = []
     rows_in (Some r) = r.rows
 lent_first (TopN sink) pushed more front rows has lends made = absurd lends
+lent_first (Sorted sink) pushed more front rows has lends made = absurd lends
 lent_first (Aggregate sink) pushed more front rows has lends made = absurd lends
-
--- ---- the end
-
-pub answer_given : (run : Run) (rows : RowsOf) → run.faulted ≡ false → map node_view run.steps.items ≡ [] → SinkGives run.sink rows → IsRunAnswer run (Some rows)
-answer_given run rows works none gives = λ passed has.
-    let some = some_passed run passed has works in
-    ap (passed_answer run) some.1
-    ∙ ap (λ ns. nodes_result ns (without_count (kept_names (sink_kept run.sink)) some.0)) (no_steps run none)
-    ∙ gives.gives some.0 some.2
 
 -- ---- what a run lends
 

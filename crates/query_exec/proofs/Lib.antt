@@ -3,8 +3,10 @@ pub mod CountLemmas
 pub mod StepLemmas
 pub mod KeptLemmas
 pub mod SliceLemmas
+pub mod DayLemmas
 pub mod CutoffLemmas
 pub mod TopNLemmas
+pub mod SortedLemmas
 pub mod AggregateLemmas
 pub mod FitLemmas
 pub mod NeededLemmas

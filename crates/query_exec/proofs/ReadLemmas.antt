@@ -1,7 +1,7 @@
 -- What a run has that was handed the first so many of the blocks that are needed.
-use Rattle.std.proofs.Common.{◌≡◌, ℕ, zero, suc, ◌+◌, Option, Some, None, List, [], ◌∷◌, ◌++◌, map, drop, take, refl, sym, ap, ◌∙◌, subst, arith, append-nil}
+use Rattle.std.proofs.Common.{◌≡◌, ℕ, ◌+◌, Option, Some, None, List, [], ◌++◌, map, drop, take, sym, ap, ◌∙◌, subst, arith, append-nil}
 use Rattle.std.specs.Prelude.{count_by, option_and_then, option_map, slice_get}
-use Rattle.std.proofs.lemmas.List.{get_or_append_left, length-append}
+use Rattle.std.proofs.lemmas.List.{get_or_append_left, length-append, take-append-drop}
 use Rattle.std.proofs.lemmas.List.Concat.{flat_map-append}
 use Rattle.block_summary.specs.Blocks.{block_at}
 use Rattle.cell_types.specs.Value.{CellValue}
@@ -22,7 +22,7 @@ use Rattle.block_filter.specs.Conditions.{rows_joined, passing_all, ConditionsIn
 use Rattle.query_exec.specs.declared.run.Run.{Run}
 use Rattle.query_exec.specs.Answer.{plan_answer}
 use Rattle.query_exec.specs.Conditions.{condition_nodes}
-use Rattle.query_exec.specs.Intermediate.{without_count}
+use Rattle.query_exec.specs.Steps.{without_count}
 use Rattle.query_exec.specs.Kept.{kept_names}
 use Rattle.query_exec.specs.Picked.{selected_rows}
 use Rattle.query_exec.specs.Run.{conditions_of, handed_rows, next_block, passed_answer, passed_rows, places_of, steps_of, wanted_block, HasPassed, HasTakenBlocks, HasTakenIn, IsReady}
@@ -32,11 +32,6 @@ use Rattle.query_exec.proofs.KeptLemmas.{as_many, still_kept}
 use Rattle.query_exec.proofs.ConditionLemmas.{parts_fit, parts_give, selected_joined}
 
 -- ---- the blocks that were handed in
-
-in_two : {X : Type 0} (n : ℕ) (xs : List X) → xs ≡ take n xs ++ drop n xs
-in_two zero xs = refl
-in_two (suc n) [] = refl
-in_two (suc n) (x ∷ xs) = ap (λ ys. x ∷ ys) (in_two n xs)
 
 front_rows : (schema : SchemaOf) (front back : List (List CellValue)) → AreTableRows schema (front ++ back) → AreTableRows schema front
 front_rows schema front back are =
@@ -55,7 +50,7 @@ pub handed_parts : (plan : PlanOf) (table : TableOf) (handed : ℕ)
     → read_rows plan table ≡ handed_rows plan table handed ++ rows_of_blocks table.rows (drop handed (needed plan table.rows))
 handed_parts plan table handed =
     let blocks = needed plan table.rows in
-    ap (rows_of_blocks table.rows) (in_two handed blocks) ∙ flat_map-append (block_at table.rows) (take handed blocks) (drop handed blocks)
+    ap (rows_of_blocks table.rows) (sym (take-append-drop handed blocks)) ∙ flat_map-append (block_at table.rows) (take handed blocks) (drop handed blocks)
 
 -- the rows of the first so many blocks that are needed are rows of a table
 pub handed_are_rows : ScansReadTableRows → (plan : PlanOf) (table : TableOf) (handed : ℕ) → AreTableRows table.schema table.rows

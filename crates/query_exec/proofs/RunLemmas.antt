@@ -15,22 +15,23 @@ use Rattle.block_filter.specs.Passing.{unless_faulted, ArePassing}
 use Rattle.query_meaning.specs.Filter.{passes_each}
 use Rattle.query_meaning.specs.Meaning.{first_rows}
 use Rattle.query_plan.specs.Fitting.{NodesFit}
+use Rattle.odata_types.specs.Laws.{TablesAreInputs}
 use Rattle.query_plan.specs.Laws.{NodesInTurn, ScansReadTableRows}
 use Rattle.query_plan.specs.Plan.{PlanOf, needed, node_view, nodes_result}
 use Rattle.result_rows.specs.Rows.{RowsOf}
 use Rattle.query_exec.specs.declared.fault.ExecFault.{ExecFault}
 use Rattle.query_exec.specs.declared.fault.ExecFault.TheVariants.{DivisionByZero, NoMemory, Failed}
-use Rattle.query_exec.specs.declared.intermediate.Intermediate.{Intermediate}
 use Rattle.query_exec.specs.declared.run.Run.{Run}
-use Rattle.query_exec.specs.Intermediate.{intermediate_view, without_count, GivesIntermediate, IsIntermediate}
+use Rattle.query_exec.specs.Steps.{without_count, GivesResult}
 use Rattle.query_exec.specs.Fault.{exec_fault}
 use Rattle.row_eval.specs.declared.fault.EvalFault.{EvalFault}
 use Rattle.row_eval.specs.declared.fault.EvalFault.TheVariants as eval
 use Rattle.query_exec.specs.Kept.{kept_names, AreKeptOf}
 use Rattle.query_exec.specs.Picked.{selected_rows}
 use Rattle.query_exec.specs.Run.{conditions_of, handed_block, handed_rows, next_block, passed_answer, passed_rows, places_of, run_length, steps_of, wanted_block, HasPassed, HasTakenBlocks, HasTakenIn, IsRunAnswer, IsReady, MayTakeIn, RunGoesOn, StandsFor, StepsTo}
-use Rattle.query_exec.specs.Sink.{room_behind, sink_kept, sink_nodes, spare_of, AreFound, SinkMakes, HasPushed, MayFinish, MayPush, PushesOn}
+use Rattle.query_exec.specs.Sink.{room_behind, sink_kept, sink_nodes, spare_of, AreFound, SinkGives, HasPushed, MayFinish, MayPush, PushesOn}
 use Rattle.query_exec.proofs.CountLemmas.{few_pass, passed_count}
+use Rattle.query_exec.proofs.DayLemmas.{table_days}
 use Rattle.query_exec.proofs.FitLemmas.{block_fits}
 use Rattle.query_exec.proofs.NeededLemmas.{is_block, is_no_block, none_behind}
 use Rattle.query_exec.proofs.ReadLemmas.{answer_is, block_read, handed_are_rows, is_ready, one_block_more, passed_fit, wanted_is_next, whole_read}
@@ -111,8 +112,8 @@ module _ (run : Run) (plan : PlanOf) (table : TableOf) (handed : ℕ) (stands : 
     ready_behind_block turn scans new taken beyond = is_ready turn scans new plan table (handed + 1) (read_behind new taken) beyond
 
     -- what passes of its rows may go to the sink
-    pub block_may_be_taken : NodesInTurn → ScansReadTableRows → HasTableRows block → MayTakeIn run block
-    block_may_be_taken turn scans rows_are =
+    pub block_may_be_taken : NodesInTurn → ScansReadTableRows → TablesAreInputs → HasTableRows block → MayTakeIn run block
+    block_may_be_taken turn scans inputs rows_are =
         let at = is_block plan table handed block is in
         let schema_is : block.schema ≡ table.schema = ap (λ (b : TableOf). b.schema) at.2 in
         let has = stands.read in
@@ -125,6 +126,7 @@ module _ (run : Run) (plan : PlanOf) (table : TableOf) (handed : ℕ) (stands : 
         record {
           conditions = block_fits run plan table handed block has rows_are schema_is;
           columns = subst (AreKeptOf (sink_kept run.sink)) (sym schema_is) has.columns;
+          days = table_days inputs block rows_are;
           passed = passed_rows run (handed_rows plan table handed);
           has = has.passed;
           few = λ rows e.
@@ -171,6 +173,7 @@ may_push run block found may are works still =
       passing = new.0;
       are_found = new.2;
       columns = may.columns;
+      days = may.days;
       before = old.0;
       pushed = old.2;
       few = may.few (old.0 ++ selected_rows (places_of run) new.0) joined;
@@ -260,32 +263,29 @@ may_finish run ready works turn =
       fits = turn.below_fit (sink_nodes run.sink) (map node_view run.steps.items) (without_count (kept_names (sink_kept run.sink)) some.0) (ready.fits some.0 some.1);
     }
 
-module _ (run : Run) (ready : IsReady run) (works : run.faulted ≡ false) (turn : NodesInTurn) (sunk : Intermediate) (sinks : SinkMakes run.sink sunk) where
-  pub sunk_is : IsIntermediate sunk
-  sunk_is = let some = some_passed run ready.passed ready.has works in (sinks.makes some.0 some.2).intermediate
-
-  pub steps_fit : NodesFit (map node_view run.steps.items) (intermediate_view sunk)
+module _ (run : Run) (ready : IsReady run) (works : run.faulted ≡ false) (turn : NodesInTurn) (sunk : RowsOf) (sinks : SinkGives run.sink sunk) where
+  pub steps_fit : NodesFit (map node_view run.steps.items) sunk
   steps_fit =
       let some = some_passed run ready.passed ready.has works in
-      turn.above_fit (sink_nodes run.sink) (map node_view run.steps.items) (without_count (kept_names (sink_kept run.sink)) some.0) (intermediate_view sunk)
-      (ready.fits some.0 some.1) (sinks.makes some.0 some.2).result
+      turn.above_fit (sink_nodes run.sink) (map node_view run.steps.items) (without_count (kept_names (sink_kept run.sink)) some.0) sunk
+      (ready.fits some.0 some.1) (sinks.gives some.0 some.2)
 
   -- what the steps make of what the sink made is the answer
-  pub answer_made : (answer : Option RowsOf) → nodes_result (map node_view run.steps.items) (intermediate_view sunk) ≡ answer → IsRunAnswer run answer
+  pub answer_made : (answer : Option RowsOf) → nodes_result (map node_view run.steps.items) sunk ≡ answer → IsRunAnswer run answer
   answer_made answer is = λ passed has.
       let some = some_passed run passed has works in
       let r = without_count (kept_names (sink_kept run.sink)) some.0 in
       ap (passed_answer run) some.1 ∙ turn.turn (sink_nodes run.sink) (map node_view run.steps.items) r
-      ∙ ap (option_and_then (nodes_result (map node_view run.steps.items))) (sinks.makes some.0 some.2).result ∙ is
+      ∙ ap (option_and_then (nodes_result (map node_view run.steps.items))) (sinks.gives some.0 some.2) ∙ is
 
-  fault_answer : (new : Run) (fault : EvalFault) → wanted_block run ≡ None → GivesIntermediate (nodes_result (map node_view run.steps.items) (intermediate_view sunk)) (Err fault)
+  fault_answer : (new : Run) (fault : EvalFault) → wanted_block run ≡ None → GivesResult (nodes_result (map node_view run.steps.items) sunk) (Err fault)
       → RunGoesOn run new (Err (exec_fault fault))
   fault_answer new eval.DivisionByZero beyond gives = (beyond, answer_made None gives)
   fault_answer new eval.NoMemory beyond gives = tt
 
   -- a fault of the steps is one of the run
   pub fault_goes_on : (new : Run) (fault : EvalFault) (result : Result (Option RowsOf) ExecFault) → wanted_block run ≡ None
-      → GivesIntermediate (nodes_result (map node_view run.steps.items) (intermediate_view sunk)) (Err fault) → IsErrAnd result (λ made. made ≡ exec_fault fault)
+      → GivesResult (nodes_result (map node_view run.steps.items) sunk) (Err fault) → IsErrAnd result (λ made. made ≡ exec_fault fault)
       → RunGoesOn run new result
   fault_goes_on new fault (Ok made) beyond gives is = absurd is
   fault_goes_on new fault (Err made) beyond gives is = subst (λ f. RunGoesOn run new (Err f)) (sym is) (fault_answer new fault beyond gives)

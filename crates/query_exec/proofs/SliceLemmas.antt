@@ -1,7 +1,8 @@
 -- A piece of rows that come block by block.
 use Rattle.std.proofs.Common.{◌≡◌, inl, inr, ℕ, zero, suc, ◌+◌, ◌-◌, ◌^◌, ◌<◌, nat_lt, Bool, true, false, cond, Option, Some, None, List, [], ◌∷◌, ◌++◌, drop, length, take, refl, sym, ap, ◌∙◌, arith}
 use Rattle.std.proofs.lemmas.Bool.{cases_lt, lt-ltb}
-use Rattle.std.proofs.lemmas.List.{drop-map, drop-take, length-append, length-drop, take_all}
+use Rattle.std.proofs.Math.Seq.{drop-nil, take-nil}
+use Rattle.std.proofs.lemmas.List.{drop-map, drop-take, length-append, length-drop, length-take, take_all}
 use Rattle.cell_types.specs.Value.{CellValue}
 use Rattle.row_columns.specs.Picked.{numbered, values_at}
 use Rattle.block_filter.specs.declared.block.Passed.{Passed}
@@ -9,30 +10,15 @@ use Rattle.query_meaning.specs.Meaning.{first_rows}
 use Rattle.query_plan.specs.Plan.{nodes_result, slice_view, slicing}
 use Rattle.query_plan.specs.Push.{room_of}
 use Rattle.result_rows.specs.Rows.{RowsOf}
-use Rattle.query_exec.specs.declared.intermediate.Intermediate.{Intermediate}
 use Rattle.query_exec.specs.declared.sink.Sink.TheVariants as sink
 use Rattle.query_exec.specs.declared.slice.SliceSink.{SliceSink}
-use Rattle.query_exec.specs.Intermediate.{without_count, Makes}
+use Rattle.query_exec.specs.Steps.{without_count}
 use Rattle.query_exec.specs.Kept.{kept_names, kept_places, HasKept}
 use Rattle.query_exec.specs.Picked.{selected_rows}
-use Rattle.query_exec.specs.Sink.{room_behind, spare_of, AreFound, HasPiece, PushesOn, SinkGives, SinkMakes}
+use Rattle.query_exec.specs.Sink.{room_behind, spare_of, AreFound, HasPiece, PushesOn, SinkGives}
 use Rattle.query_exec.proofs.CountLemmas.{first_selected, selected_long}
 
 -- ---- a piece of rows and of others behind them
-
-drop_none : (n : ℕ) (xs : List (List CellValue)) → xs ≡ [] → drop n xs ≡ []
-drop_none zero [] none = refl
-drop_none (suc n) [] none = refl
-drop_none n (x ∷ xs) none = absurd (cc)
-
-take_none : (n : ℕ) (ys : List (List CellValue)) → n ≡ 0 → take n ys ≡ []
-take_none zero ys none = refl
-take_none (suc n) ys none = absurd (omega (arith, none))
-
-nothing_taken : (n : ℕ) (xs : List (List CellValue)) → xs ≡ [] → take n xs ≡ []
-nothing_taken zero xs none = refl
-nothing_taken (suc n) [] none = refl
-nothing_taken (suc n) (x ∷ xs) none = absurd (cc)
 
 drop_parts : (n : ℕ) (xs ys : List (List CellValue)) → drop n (xs ++ ys) ≡ drop n xs ++ drop (n - length xs) ys
 drop_parts zero xs ys = let none : 0 - length xs ≡ 0 = omega arith in ap (λ k. xs ++ drop k ys) (sym none)
@@ -51,23 +37,12 @@ take_parts (suc n) (x ∷ xs) ys =
 -- the first so many behind others
 both_parts : (skip top : ℕ) (xs ys : List (List CellValue))
     → take top (drop skip (xs ++ ys)) ≡ take top (drop skip xs) ++ drop (skip - length xs) (take ((skip + top) - length xs) ys)
-both_parts zero top xs ys =
-    let none : 0 - length xs ≡ 0 = omega arith in
-    let all : (0 + top) - length xs ≡ top - length xs = omega arith in
-    take_parts top xs ys ∙ ap (λ k. take top xs ++ take k ys) (sym all) ∙ ap (λ k. take top xs ++ drop k (take ((0 + top) - length xs) ys)) (sym none)
-both_parts (suc skip) top [] ys =
-    let before : suc skip - 0 ≡ suc skip = omega arith in
-    let up_to : (suc skip + top) - 0 ≡ suc skip + top = omega arith in
-    sym (drop-take (suc skip) top ys)
-    ∙ ap (λ k. drop (suc skip) (take k ys)) (sym up_to)
-    ∙ ap (λ k. drop k (take ((suc skip + top) - 0) ys)) (sym before)
-    ∙ ap (λ front. front ++ drop (suc skip - 0) (take ((suc skip + top) - 0) ys)) (sym (nothing_taken top [] refl))
-both_parts (suc skip) top (x ∷ xs) ys =
-    let before : suc skip - suc (length xs) ≡ skip - length xs = omega arith in
-    let up_to : (suc skip + top) - suc (length xs) ≡ (skip + top) - length xs = omega arith in
-    both_parts skip top xs ys
-    ∙ ap (λ k. take top (drop skip xs) ++ drop (skip - length xs) (take k ys)) (sym up_to)
-    ∙ ap (λ k. take top (drop skip xs) ++ drop k (take ((suc skip + top) - suc (length xs)) ys)) (sym before)
+both_parts skip top xs ys =
+    let front : skip - length (take (skip + top) xs) ≡ skip - length xs = omega (arith, length-take (skip + top) xs) in
+    let more = take ((skip + top) - length xs) ys in
+    sym (drop-take skip top (xs ++ ys)) ∙ ap (drop skip) (take_parts (skip + top) xs ys) ∙ drop_parts skip (take (skip + top) xs) more
+    ∙ ap (λ rows. rows ++ drop (skip - length (take (skip + top) xs)) more) (drop-take skip top xs)
+    ∙ ap (λ n. take top (drop skip xs) ++ drop n more) front
 
 -- where a piece is of so many first rows that there are fewer, it is of all
 sized : (skip top : ℕ) (b : Bool) (xs ys : List (List CellValue)) → nat_lt (skip + top) (2 ^ 64) ≡ b → length (xs ++ ys) < 2 ^ 64
@@ -88,7 +63,7 @@ piece_behind : (skip : ℕ) (top : Option ℕ) (xs ys : List (List CellValue)) �
 piece_behind skip None xs ys few = drop_parts skip xs ys
 piece_behind skip (Some zero) xs ys few =
     let none : 0 - length xs ≡ 0 = omega arith in
-    sym (drop_none (skip - length xs) (take (0 - length xs) ys) (take_none (0 - length xs) ys none))
+    sym (drop-nil (skip - length xs)) ∙ ap (λ n. drop (skip - length xs) (take n ys)) (sym none)
 piece_behind skip (Some (suc top)) xs ys few = sized skip (suc top) (nat_lt (skip + suc top) (2 ^ 64)) xs ys refl few
 
 -- a piece of the first rows is a beginning of the piece of all
@@ -140,14 +115,14 @@ slice_pushed old new rows found numbers slice_is count_is few behind kept = reco
       };
 }
 
-first_none : (top : Option ℕ) (xs : List (List CellValue)) → xs ≡ [] → first_rows top xs ≡ []
-first_none None xs none = none
-first_none (Some n) xs none = nothing_taken n xs none
+first_none : (skip : ℕ) (top : Option ℕ) → first_rows top (drop skip []) ≡ []
+first_none skip None = drop-nil skip
+first_none skip (Some n) = ap (take n) (drop-nil skip) ∙ take-nil n
 
 -- before any is
 pub no_piece : (s : SliceSink) → s.count ≡ 0 → s.kept.columns.rows ≡ [] → HasPiece s []
 no_piece s count none = record {
-  piece = none ∙ sym (first_none s.slice.top (drop s.slice.skip []) (drop_none s.slice.skip [] refl));
+  piece = none ∙ sym (first_none s.slice.skip s.slice.top);
   count = count;
 }
 
@@ -164,9 +139,3 @@ piece_given s rows has =
 pub slice_gives : (s : SliceSink) (given : RowsOf)
     → given ≡ record { names = kept_names s.kept; rows = s.kept.columns.rows; count = cond s.slice.counts (Some s.count) None } → SinkGives (sink.Slice s) given
 slice_gives s given is = record { gives = λ rows has. piece_given s rows has ∙ ap Some (sym is) }
-
-pub slice_finishes : (s : SliceSink) (made : Intermediate)
-    → Makes (Some (record { names = kept_names s.kept; rows = s.kept.columns.rows; count = cond s.slice.counts (Some s.count) None })) made → SinkMakes (sink.Slice s) made
-slice_finishes s made makes = record {
-  makes = λ rows has. record { result = piece_given s rows has ∙ makes.result; intermediate = makes.intermediate };
-}

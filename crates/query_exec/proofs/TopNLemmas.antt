@@ -17,23 +17,24 @@ use Rattle.row_eval.specs.Outcome.{outcome}
 use Rattle.table_store.specs.Table.{TableOf}
 use Rattle.typed_trees.specs.CanFault.{can_fault}
 use Rattle.odata_query.specs.Query.{order_view}
+use Rattle.query_meaning.specs.Meaning.{ResultOf}
 use Rattle.query_meaning.specs.Order.{Item, are_plain, order_faults, plain_column, rows_cmp, sorted}
 use Rattle.query_plan.specs.Plan.{choosing, nodes_result}
 use Rattle.row_columns.specs.Picked.{numbered}
+use Rattle.row_selection.specs.Numbers.{numbers_from}
 use Rattle.sort_rows.specs.Best.{best_rows, BestInPieces}
 use Rattle.sort_rows.specs.Cutoffs.{NeverFault}
-use Rattle.query_exec.specs.declared.intermediate.Intermediate.{Intermediate}
 use Rattle.query_exec.specs.declared.sink.Sink.TheVariants as sink
 use Rattle.query_exec.specs.declared.top_n.TopNSink.{TopNSink}
-use Rattle.query_exec.specs.Intermediate.{without_count, AreAllNumbers, Makes}
+use Rattle.query_exec.specs.Steps.{without_count}
 use Rattle.query_exec.specs.Items.{none_can_fault, ItemsFit}
 use Rattle.query_exec.specs.Kept.{kept_names, kept_places, HasKept, HasReduced}
 use Rattle.query_exec.specs.declared.kept.Kept.{Kept}
 use Rattle.query_exec.specs.Picked.{selected_rows}
-use Rattle.query_exec.specs.Sink.{sink_items, MayPush, PushesOn, SinkMakes}
+use Rattle.query_exec.specs.Sink.{sink_items, MayPush, PushesOn, SinkGives}
 use Rattle.query_exec.specs.Cutoffs.{HasCutoff}
 use Rattle.query_exec.specs.TopN.{AreBestOf, AreFirst, AreTimely, HasCutRows}
-use Rattle.query_exec.proofs.StepLemmas.{all_numbered}
+use Rattle.row_columns.proofs.NumberedLaws.{all_numbered}
 
 -- ---- items that are columns alone
 
@@ -123,11 +124,11 @@ pub best_cut : BestInPieces → (items : List Item) (most : ℕ) (rows best : Li
 best_cut law items most rows best is =
     ap (best_rows items most) (sym (append-nil best)) ∙ law.front items most rows [] best is ∙ ap (best_rows items most) (append-nil rows)
 
-pub best_of : (s : TopNSink) (all numbers : List ℕ) → AreAllNumbers all (length s.kept.columns.rows) → All (λ n. n < length s.kept.columns.rows) numbers
+pub best_of : (s : TopNSink) (all numbers : List ℕ) → all ≡ numbers_from 0 (length s.kept.columns.rows) → All (λ n. n < length s.kept.columns.rows) numbers
     → best_rows (sink_items s) s.most (numbered all s.kept.columns.rows) ≡ Some (numbered numbers s.kept.columns.rows) → AreBestOf s numbers
 best_of s all numbers are within made = record {
   within = within;
-  rows = ap (best_rows (sink_items s) s.most) (sym (all_numbered all s.kept.columns.rows are)) ∙ made;
+  rows = ap (best_rows (sink_items s) s.most) (sym (ap (λ ns. numbered ns s.kept.columns.rows) are ∙ all_numbered s.kept.columns.rows)) ∙ made;
 }
 
 pub first_are_kept : (s : TopNSink) (kept : Kept) (numbers : List ℕ) → AreBestOf s numbers → HasReduced s.kept kept numbers → AreFirst (record s { kept = kept })
@@ -199,13 +200,10 @@ top_n_pushed faults law old new mid rows found numbers safe timely kept cut = re
 }
 
 -- the first of those that are kept are the first of all
-pub top_n_finishes : (s : TopNSink) (numbers : List ℕ) (made : Intermediate) → AreBestOf s numbers
-    → Makes (Some (without_count (kept_names s.kept) (numbered numbers s.kept.columns.rows))) made → SinkMakes (sink.TopN s) made
-top_n_finishes s numbers made are makes = record {
-  makes = λ rows has. record {
-    result =
-        ap (λ best. option_and_then (nodes_result []) (option_map (λ rs. without_count (kept_names s.kept) rs) best)) (sym has.first ∙ are.rows)
-        ∙ makes.result;
-    intermediate = makes.intermediate;
-  };
+pub top_n_finishes : (s : TopNSink) (numbers : List ℕ) (given : ResultOf) → AreBestOf s numbers
+    → given ≡ without_count (kept_names s.kept) (numbered numbers s.kept.columns.rows) → SinkGives (sink.TopN s) given
+top_n_finishes s numbers given are is = record {
+  gives = λ rows best.
+      ap (λ best. option_and_then (nodes_result []) (option_map (λ rs. without_count (kept_names s.kept) rs) best)) (sym best.first ∙ are.rows)
+      ∙ ap Some (sym is);
 }

@@ -7,7 +7,7 @@ use Rattle.row_eval.specs.Bounds.{TruthFits}
 use Rattle.query_meaning.specs.Filter.{passes}
 use Rattle.query_meaning.specs.Order.{Item}
 use Rattle.row_columns.specs.Picked.{values_at}
-use Rattle.sort_rows.specs.Cutoffs.{first_place, ComesLate}
+use Rattle.sort_rows.specs.Cutoffs.{first_place, ComesLate, HasCalendarDays}
 use Rattle.query_exec.specs.declared.kept.Kept.{Kept}
 use Rattle.query_exec.specs.declared.top_n.TopNSink.{TopNSink}
 use Rattle.query_exec.specs.Kept.{kept_places}
@@ -31,7 +31,7 @@ selected_row (Some places) row = values_at places row
 -- a row of a block on which the condition is not true comes late after the rows that are kept; the condition computes no number
 pub record CutsOff (items : List Item) (most : ℕ) (kept : Kept) (e : TruthExprOf) : Type 0 where
   pub fits : (row : List CellValue) → TruthFits e row
-  pub late : (row : List CellValue) → passes e row ≡ false → ComesLate items most kept.columns.rows (selected_row (kept_places kept) row)
+  pub late : (row : List CellValue) → HasCalendarDays row → passes e row ≡ false → ComesLate items most kept.columns.rows (selected_row (kept_places kept) row)
 
 -- so it is with the condition of a sink, where it has one
 abbrev pub HasCutoff : TopNSink → Type 0

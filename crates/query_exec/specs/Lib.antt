@@ -10,7 +10,7 @@ pub mod Answer
 pub mod Conditions
 pub mod Picked
 pub mod Kept
-pub mod Intermediate
+pub mod Steps
 pub mod Items
 pub mod Cutoffs
 pub mod Sink

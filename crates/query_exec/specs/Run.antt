@@ -10,6 +10,7 @@ use Rattle.query_meaning.specs.Fitting.{AreTableRows}
 use Rattle.query_meaning.specs.Filter.{passes_each}
 use Rattle.query_plan.specs.Plan.{NodeOf, PlanOf, leading, needed, node_view, nodes_result, select_nodes}
 use Rattle.query_plan.specs.Scan.{rows_of_blocks, up_to}
+use Rattle.sort_rows.specs.Cutoffs.{HasCalendarDays}
 use Rattle.block_filter.specs.Conditions.{passing_all, rows_joined, ConditionsFit}
 use Rattle.query_exec.specs.declared.fault.ExecFault.{ExecFault}
 use Rattle.query_exec.specs.declared.fault.ExecFault.TheVariants.{DivisionByZero, NoMemory, Failed}
@@ -21,7 +22,7 @@ use Rattle.query_exec.specs.declared.run.Step.TheVariants.{More, Done}
 use Rattle.result_rows.specs.Rows.{BeginWith, RowsOf}
 use Rattle.query_exec.specs.Answer.{plan_answer}
 use Rattle.query_exec.specs.Conditions.{condition_nodes}
-use Rattle.query_exec.specs.Intermediate.{without_count}
+use Rattle.query_exec.specs.Steps.{without_count}
 use Rattle.query_exec.specs.Kept.{kept_names, kept_places, AreKeptOf, HasSameColumns}
 use Rattle.query_exec.specs.Picked.{selected_rows}
 use Rattle.query_exec.specs.Sink.{room_behind, sink_kept, sink_nodes, HasPushed}
@@ -142,6 +143,7 @@ pub record IsReady (run : Run) : Type 0 where
 pub record MayTakeIn (run : Run) (block : TableOf) : Type 0 where
   pub conditions : All (ConditionsFit (conditions_of run)) block.rows
   pub columns : AreKeptOf (sink_kept run.sink) block.schema
+  pub days : All HasCalendarDays block.rows
   pub passed : Option (List (List CellValue))
   pub has : HasPassed run passed
   pub few : (rows : List (List CellValue)) → rows_joined passed (passed_rows run block.rows) ≡ Some rows → length rows < 2 ^ 64

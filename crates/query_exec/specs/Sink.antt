@@ -8,24 +8,26 @@ use Rattle.odata_query.specs.Query.{optional_numbers, order_view}
 use Rattle.table_store.specs.Table.{TableOf}
 use Rattle.row_columns.specs.Picked.{numbered}
 use Rattle.sort_rows.specs.Best.{best_rows}
+use Rattle.sort_rows.specs.Cutoffs.{HasCalendarDays}
+use Rattle.sort_rows.specs.Runs.{HasInRuns}
 use Rattle.aggregate_rows.specs.Gathered.{Gathers}
 use Rattle.block_filter.specs.declared.block.Passed.{Passed}
 use Rattle.query_meaning.specs.Meaning.{first_rows}
 use Rattle.query_meaning.specs.Order.{Item}
 use Rattle.query_plan.specs.Fitting.{NodesFit}
-use Rattle.query_plan.specs.Plan.{NodeOf, choosing, nodes_result, slice_view, slicing}
+use Rattle.query_plan.specs.Plan.{NodeOf, choosing, nodes_result, slice_view, slicing, sorting}
 use Rattle.query_plan.specs.Push.{room_of}
 use Rattle.result_rows.specs.Rows.{RowsOf}
 use Rattle.query_exec.specs.declared.aggregate.AggregateSink.{AggregateSink}
 use Rattle.query_exec.specs.declared.front.FirstRows.{FirstRows}
-use Rattle.query_exec.specs.declared.intermediate.Intermediate.{Intermediate}
 use Rattle.query_exec.specs.declared.kept.Kept.{Kept}
 use Rattle.query_exec.specs.declared.sink.Sink.{Sink}
-use Rattle.query_exec.specs.declared.sink.Sink.TheVariants.{Aggregate, Collect, Slice, TopN}
+use Rattle.query_exec.specs.declared.sink.Sink.TheVariants.{Aggregate, Collect, Slice, Sorted, TopN}
 use Rattle.query_exec.specs.declared.slice.SliceSink.{SliceSink}
+use Rattle.query_exec.specs.declared.sorted.SortedSink.{SortedSink}
 use Rattle.query_exec.specs.declared.top_n.TopNSink.{TopNSink}
 use Rattle.query_exec.specs.Cutoffs.{HasCutoff}
-use Rattle.query_exec.specs.Intermediate.{aggregate_node, without_count, Makes}
+use Rattle.query_exec.specs.Steps.{aggregate_node, without_count}
 use Rattle.query_exec.specs.Items.{none_can_fault, ItemsFit}
 use Rattle.query_exec.specs.Kept.{kept_names, kept_places, AreKeptOf, AreKeptRows, HasSameColumns}
 use Rattle.query_exec.specs.Picked.{selected_rows}
@@ -33,10 +35,14 @@ use Rattle.query_exec.specs.Picked.{selected_rows}
 abbrev pub sink_items : TopNSink → List Item
 sink_items sink = map order_view sink.items.items
 
+abbrev pub sorted_items : SortedSink → List Item
+sorted_items sink = map order_view sink.items.items
+
 abbrev pub sink_kept : Sink → Kept
 sink_kept (Collect kept) = kept
 sink_kept (Slice sink) = sink.kept
 sink_kept (TopN sink) = sink.kept
+sink_kept (Sorted sink) = sink.kept
 sink_kept (Aggregate sink) = sink.kept
 
 -- the step that it does, where it does one
@@ -44,6 +50,7 @@ abbrev pub sink_nodes : Sink → List NodeOf
 sink_nodes (Collect kept) = []
 sink_nodes (Slice sink) = slicing (slice_view sink.slice) ∷ []
 sink_nodes (TopN sink) = choosing (sink_items sink) sink.most ∷ []
+sink_nodes (Sorted sink) = sorting (sorted_items sink) ∷ []
 sink_nodes (Aggregate sink) = aggregate_node (optional_numbers sink.places) (aggregates_view sink.aggregates) ∷ []
 
 -- ---- the rows that were pushed
@@ -60,6 +67,11 @@ pub record HasBest (sink : TopNSink) (rows : List (List CellValue)) : Type 0 whe
   pub cutoff : HasCutoff sink
   pub first : best_rows (sink_items sink) sink.most sink.kept.columns.rows ≡ best_rows (sink_items sink) sink.most rows
 
+-- of an order all rows are kept, and are in runs
+pub record HasOrder (sink : SortedSink) (rows : List (List CellValue)) : Type 0 where
+  pub rows_are : sink.kept.columns.rows ≡ rows
+  pub runs_are : HasInRuns (sorted_items sink) sink.runs sink.kept.columns.rows
+
 -- for aggregates none is kept
 pub record HasGathered (sink : AggregateSink) (rows : List (List CellValue)) : Type 0 where
   pub gathers : Gathers sink.aggregator (optional_numbers sink.places) (aggregates_view sink.aggregates) rows
@@ -69,6 +81,7 @@ abbrev pub HasPushed : Sink → List (List CellValue) → Type 0
 HasPushed (Collect kept) rows = kept.columns.rows ≡ rows
 HasPushed (Slice sink) rows = HasPiece sink rows
 HasPushed (TopN sink) rows = HasBest sink rows
+HasPushed (Sorted sink) rows = HasOrder sink rows
 HasPushed (Aggregate sink) rows = HasGathered sink rows
 
 -- ---- a push
@@ -94,6 +107,7 @@ pub record MayPush (sink : Sink) (block : TableOf) (found : Passed) : Type 0 whe
   pub passing : List (List CellValue)
   pub are_found : AreFound (spare_of sink) block.rows found passing
   pub columns : AreKeptOf (sink_kept sink) block.schema
+  pub days : All HasCalendarDays block.rows
   pub before : List (List CellValue)
   pub pushed : HasPushed sink before
   pub few : length (before ++ selected_rows (kept_places (sink_kept sink)) passing) < 2 ^ 64
@@ -113,6 +127,7 @@ abbrev pub LendsKept : Sink → Option FirstRows → Type 0
 LendsKept (Collect kept) (Some front) = AreKeptRows kept front
 LendsKept (Slice sink) (Some front) = AreKeptRows sink.kept front
 LendsKept (TopN sink) None = ⊤
+LendsKept (Sorted sink) None = ⊤
 LendsKept (Aggregate sink) None = ⊤
 LendsKept _ _ = ⊥
 
@@ -126,9 +141,5 @@ pub record MayFinish (sink : Sink) : Type 0 where
   pub fits : NodesFit (sink_nodes sink) (without_count (kept_names (sink_kept sink)) rows)
 
 -- that is what its step makes of the rows that were pushed
-pub record SinkMakes (sink : Sink) (made : Intermediate) : Type 0 where
-  pub makes : (rows : List (List CellValue)) → HasPushed sink rows → Makes (nodes_result (sink_nodes sink) (without_count (kept_names (sink_kept sink)) rows)) made
-
--- the same as rows
 pub record SinkGives (sink : Sink) (given : RowsOf) : Type 0 where
   pub gives : (rows : List (List CellValue)) → HasPushed sink rows → nodes_result (sink_nodes sink) (without_count (kept_names (sink_kept sink)) rows) ≡ Some given

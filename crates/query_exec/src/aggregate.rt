@@ -3,14 +3,14 @@ ghost use Rattle.std.specs.Prelude.{◌≡◌, [], IfOk, OnOk};
 ghost use Rattle.odata_query.specs.Aggregate.{aggregates_view};
 ghost use Rattle.odata_query.specs.Query.{optional_numbers};
 ghost use Rattle.query_exec.specs.declared.sink.Sink.TheVariants as sink;
-ghost use Rattle.query_exec.specs.Sink.{HasPushed, SinkMakes, MayFinish, MayPush, PushesOn};
+ghost use Rattle.query_exec.specs.Sink.{HasPushed, SinkGives, MayFinish, MayPush, PushesOn};
 
-use crate::intermediate::Intermediate;
 use crate::kept::Kept;
 use crate::names::aggregate_names;
 use aggregate_rows::Aggregator;
 use block_filter::Passed;
 use odata_query::NamedAggregate;
+use result_rows::Rows;
 use row_selection::Selection;
 use std::alloc::{AllocError, Global};
 use table_store::Block;
@@ -70,9 +70,9 @@ impl AggregateSink {
     }
 
     /// Returns the row of aggregates, or a row for each group, of all rows that joined.
-    pub(crate) fn finish(self, alloc: Global) -> Result<Intermediate, AllocError>
+    pub(crate) fn finish(self, alloc: Global) -> Result<Rows, AllocError>
         requires { MayFinish (sink.Aggregate self) }
-        ensures { IfOk result (SinkMakes (sink.Aggregate self)) }
+        ensures { IfOk result (SinkGives (sink.Aggregate self)) }
     {
         let AggregateSink {
             kept,
@@ -87,6 +87,6 @@ impl AggregateSink {
             aggregates.as_slice(),
         )?;
         let columns = aggregator.finish(alloc)?;
-        Intermediate::whole(alloc, names, columns, None)
+        Ok(Rows::new(names, columns, None))
     }
 }

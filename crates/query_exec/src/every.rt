@@ -4,7 +4,7 @@ ghost use Rattle.std.specs.List.{All};
 ghost use Rattle.typed_trees.specs.TypedTree.{boxed_truth};
 ghost use Rattle.block_filter.specs.Conditions.{ConditionsFit};
 ghost use Rattle.block_filter.specs.Passing.{ArePassing};
-ghost use Rattle.query_exec.specs.Intermediate.{AreAllNumbers};
+ghost use Rattle.row_selection.specs.Numbers.{numbers_from};
 
 use block_filter::{Passed, filter_block};
 use row_selection::Selection;
@@ -12,9 +12,16 @@ use std::alloc::{AllocError, Global};
 use table_store::Block;
 use typed_trees::TruthExpr;
 
+/// Returns the numbers of the first `len` rows.
+pub(crate) fn all_numbers(alloc: Global, len: usize) -> Result<Vec<usize>, AllocError>
+    ensures { IfOk result (λ numbers. numbers.items ≡ numbers_from 0 len) }
+{
+    Selection::all(len).to_vec(alloc)
+}
+
 /// Returns all rows, as they are found. It takes no memory.
 fn every_row(rows: usize) -> Passed
-    ensures rows { AreAllNumbers result.rows rows }
+    ensures rows { result.rows ≡ numbers_from 0 rows }
     ensures count { result.count ≡ rows }
     ensures faulted { result.faulted ≡ false }
 {

@@ -1,15 +1,14 @@
 //! Rows of a table that a sink keeps.
-ghost use Rattle.std.specs.Prelude.{◌≡◌, ◌<◌, [], IfOk, IfSome, OnOk, Some, length};
+ghost use Rattle.std.specs.Prelude.{◌≡◌, ◌<◌, [], IfOk, IfSome, OnOk, length};
 ghost use Rattle.std.specs.List.{All};
 ghost use Rattle.csvw_meta.specs.Schema.{schema_view};
 ghost use Rattle.odata_query.specs.Query.{optional_numbers};
 ghost use Rattle.row_columns.specs.Picked.{numbered};
-ghost use Rattle.query_exec.specs.Intermediate.{Makes};
 ghost use Rattle.query_exec.specs.Kept.{kept_names, kept_places, AreKeptOf, AreKeptRows, HasKept, HasReduced};
 ghost use Rattle.query_exec.specs.Picked.{selected_rows};
+ghost use Rattle.query_exec.specs.Steps.{without_count};
 
 use crate::front::FirstRows;
-use crate::intermediate::Intermediate;
 use csvw_meta::Schema;
 use result_rows::{Rows, names_of, picked_names};
 use row_columns::Columns;
@@ -116,40 +115,13 @@ impl Kept {
         Rows::new(names, columns, count)
     }
 
-    /// Returns all of the rows, and a count.
-    pub(crate) fn whole(self, alloc: Global, count: Option<u64>) -> Result<Intermediate, AllocError>
-        requires { length self.columns.kinds ≡ length (kept_names self) }
-        ensures { IfOk result (Makes (Some (record {
-          names = kept_names self;
-          rows = self.columns.rows;
-          count = count;
-        }))) }
-    {
-        let Kept {
-            names,
-            mut columns,
-            ..
-        } = self;
-        columns.list(alloc)?;
-        Intermediate::whole(alloc, names, columns, count)
-    }
-
-    /// Returns the rows with these numbers, and a count.
-    pub(crate) fn with_numbers(self, numbers: Vec<usize>, count: Option<u64>) -> Intermediate
-        requires within { All (λ n. n < length self.columns.rows) numbers.items }
+    /// Returns the rows with these numbers, in their order.
+    pub(crate) fn with_numbers(self, alloc: Global, numbers: &[usize]) -> Result<Rows, AllocError>
+        requires within { All (λ n. n < length self.columns.rows) numbers.now }
         requires width { length self.columns.kinds ≡ length (kept_names self) }
-        ensures { Makes (Some (record {
-          names = kept_names self;
-          rows = numbered numbers.items self.columns.rows;
-          count = count;
-        })) result }
+        ensures { IfOk result (λ rows. rows
+            ≡ without_count (kept_names self) (numbered numbers.now self.columns.rows)) }
     {
-        let Kept { names, columns, .. } = self;
-        Intermediate {
-            names,
-            columns,
-            numbers,
-            count,
-        }
+        self.into_rows(None).with_rows(alloc, numbers, None)
     }
 }

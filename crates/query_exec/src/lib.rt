@@ -7,13 +7,13 @@ mod aggregate;
 mod every;
 mod fault;
 mod front;
-mod intermediate;
 mod kept;
 mod names;
 mod parts;
 mod run;
 mod sink;
 mod slice;
+mod sorted;
 mod steps;
 mod top_n;
 

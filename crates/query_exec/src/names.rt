@@ -4,7 +4,7 @@ ghost use Rattle.std.specs.List.{All};
 ghost use Rattle.odata_query.specs.Aggregate.{named_view};
 ghost use Rattle.query_plan.specs.Plan.{node_names};
 ghost use Rattle.aggregate_rows.specs.Gathered.{lent_places};
-ghost use Rattle.query_exec.specs.Intermediate.{aggregate_node};
+ghost use Rattle.query_exec.specs.Steps.{aggregate_node};
 
 use odata_query::NamedAggregate;
 use result_rows::picked_names;

@@ -23,6 +23,7 @@ use crate::steps::apply_all;
 use block_filter::conditions_in_turn;
 use block_summary::{Summary, one_range};
 use csvw_meta::Schema;
+use odata_types::tables_are_inputs;
 use query_plan::{Node, Plan, nodes_in_turn, scans_read_table_rows};
 use result_rows::Rows;
 use std::alloc::{AllocError, Global};
@@ -89,12 +90,9 @@ impl Run {
             return Err(ExecFault::DivisionByZero);
         }
         let sink = mem::replace(&mut self.sink, Sink::Collect(Kept::none(alloc)));
-        if self.steps.is_empty() {
-            return Ok(Some(sink.into_rows(alloc)?));
-        }
         let sunk = sink.finish(alloc)?;
         let made = apply_all(alloc, &self.steps, sunk)?;
-        Ok(Some(made.into_rows(alloc)?))
+        Ok(Some(made))
     }
 
     /// Takes in the rows of the next block: those that pass the conditions go to the sink, until a condition divides by zero.
@@ -129,6 +127,7 @@ impl Run {
         conditions_in_turn();
         nodes_in_turn();
         scans_read_table_rows();
+        tables_are_inputs();
         if let Some(block) = block {
             block.values_fit();
             self.take_in(alloc, &block)?;

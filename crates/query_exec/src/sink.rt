@@ -1,17 +1,18 @@
 //! What takes in the rows that pass the conditions of a plan: it does the step after them.
-ghost use Rattle.std.specs.Prelude.{◌≡◌, ◌++◌, [], IfOk, OnOk, map};
+ghost use Rattle.std.specs.Prelude.{◌≡◌, ◌++◌, ◌∷◌, [], IfOk, OnOk, map, option_to_list};
 ghost use Rattle.query_plan.specs.Plan.{node_view};
-ghost use Rattle.query_exec.specs.Sink.{sink_kept, sink_nodes, spare_of, LendsKept, SinkGives, SinkMakes, HasPushed, MayFinish, MayPush, PushesOn};
+ghost use Rattle.query_exec.specs.Sink.{sink_kept, sink_nodes, spare_of, LendsKept, SinkGives, HasPushed, MayFinish, MayPush, PushesOn};
 
 use crate::aggregate::AggregateSink;
 use crate::front::FirstRows;
-use crate::intermediate::Intermediate;
 use crate::kept::Kept;
 use crate::slice::SliceSink;
+use crate::sorted::SortedSink;
 use crate::top_n::{TopNSink, none_can_fault};
 use block_filter::Passed;
 use query_plan::Node;
 use result_rows::Rows;
+use sort_rows::SortedRuns;
 use std::alloc::{AllocError, Global};
 use table_store::Block;
 
@@ -22,6 +23,7 @@ pub(crate) enum Sink {
     Collect(Kept),
     Slice(SliceSink),
     TopN(TopNSink),
+    Sorted(SortedSink),
     Aggregate(AggregateSink),
 }
 
@@ -42,30 +44,45 @@ impl Sink {
         if steps.is_empty() {
             return Ok((Sink::Collect(kept), steps));
         }
-        match steps.remove(0) {
+        let (sink, left) = Sink::doing(alloc, kept, steps.remove(0))?;
+        if let Some(step) = left {
+            steps.insert(0, step)?;
+        }
+        Ok((sink, steps))
+    }
+
+    /// Returns the sink that does a step, or a sink of all rows and the step.
+    fn doing(alloc: Global, kept: Kept, step: Node) -> Result<(Sink, Option<Node>), AllocError>
+        requires { kept.columns.rows ≡ [] }
+        ensures nodes { IfOk result (λ made.
+            sink_nodes made.0 ++ map node_view (option_to_list made.1) ≡ node_view step ∷ []) }
+        ensures kept { IfOk result (λ made. sink_kept made.0 ≡ kept) }
+        ensures none { IfOk result (λ made. HasPushed made.0 []) }
+    {
+        match step {
             Node::Slice(slice) => {
                 let count = 0;
-                Ok((Sink::Slice(SliceSink { kept, slice, count }), steps))
+                Ok((Sink::Slice(SliceSink { kept, slice, count }), None))
             }
             Node::Best(items, most) => {
                 if none_can_fault(&items) {
-                    return Ok((Sink::TopN(TopNSink::new(kept, items, most)), steps));
+                    return Ok((Sink::TopN(TopNSink::new(kept, items, most)), None));
                 }
-                steps.insert(0, Node::Best(items, most))?;
-                Ok((Sink::Collect(kept), steps))
+                Ok((Sink::Collect(kept), Some(Node::Best(items, most))))
             }
+            Node::Sort(items) => match SortedRuns::new(alloc, &items)? {
+                Some(runs) => Ok((Sink::Sorted(SortedSink { kept, items, runs }), None)),
+                None => Ok((Sink::Collect(kept), Some(Node::Sort(items)))),
+            },
             Node::Aggregate(aggregates) => {
                 let sink = AggregateSink::new(alloc, kept, None, aggregates)?;
-                Ok((Sink::Aggregate(sink), steps))
+                Ok((Sink::Aggregate(sink), None))
             }
             Node::Group(places, aggregates) => {
                 let sink = AggregateSink::new(alloc, kept, Some(places), aggregates)?;
-                Ok((Sink::Aggregate(sink), steps))
+                Ok((Sink::Aggregate(sink), None))
             }
-            node => {
-                steps.insert(0, node)?;
-                Ok((Sink::Collect(kept), steps))
-            }
+            step => Ok((Sink::Collect(kept), Some(step))),
         }
     }
 
@@ -75,7 +92,7 @@ impl Sink {
     {
         match self {
             Sink::Slice(sink) => sink.spare(),
-            Sink::Collect(_) | Sink::TopN(_) | Sink::Aggregate(_) => None,
+            Sink::Collect(_) | Sink::TopN(_) | Sink::Sorted(_) | Sink::Aggregate(_) => None,
         }
     }
 
@@ -93,6 +110,7 @@ impl Sink {
             Sink::Collect(kept) => kept.take(alloc, block, found.rows),
             Sink::Slice(sink) => sink.push(alloc, block, found),
             Sink::TopN(sink) => sink.push(alloc, block, found),
+            Sink::Sorted(sink) => sink.push(alloc, block, found),
             Sink::Aggregate(sink) => sink.push(alloc, block, found),
         }
     }
@@ -104,34 +122,20 @@ impl Sink {
         match self {
             Sink::Collect(kept) => Some(kept.lent()),
             Sink::Slice(sink) => Some(sink.kept.lent()),
-            Sink::TopN(_) | Sink::Aggregate(_) => None,
+            Sink::TopN(_) | Sink::Sorted(_) | Sink::Aggregate(_) => None,
         }
     }
 
-    /// Returns what its step makes of all rows that it took in, as an answer. If it keeps that, it takes no memory.
-    pub(crate) fn into_rows(self, alloc: Global) -> Result<Rows, AllocError>
+    /// Returns what its step makes of all rows that it took in.
+    pub(crate) fn finish(self, alloc: Global) -> Result<Rows, AllocError>
         requires { MayFinish self }
         ensures { IfOk result (SinkGives self) }
     {
         match self {
             Sink::Collect(kept) => Ok(kept.into_rows(None)),
-            Sink::Slice(sink) => Ok(sink.into_rows()),
-            sink => {
-                let made = sink.finish(alloc)?;
-                made.into_rows(alloc)
-            }
-        }
-    }
-
-    /// Returns what its step makes of all rows that it took in.
-    pub(crate) fn finish(self, alloc: Global) -> Result<Intermediate, AllocError>
-        requires { MayFinish self }
-        ensures { IfOk result (SinkMakes self) }
-    {
-        match self {
-            Sink::Collect(kept) => kept.whole(alloc, None),
-            Sink::Slice(sink) => sink.finish(alloc),
+            Sink::Slice(sink) => Ok(sink.finish()),
             Sink::TopN(sink) => sink.finish(alloc),
+            Sink::Sorted(sink) => sink.finish(alloc),
             Sink::Aggregate(sink) => sink.finish(alloc),
         }
     }

@@ -1,9 +1,8 @@
 //! A sink of a piece of the rows.
-ghost use Rattle.std.specs.Prelude.{◌≡◌, IfOk, None, OnOk, Some, if◌then◌else◌};
+ghost use Rattle.std.specs.Prelude.{◌≡◌, None, OnOk, Some, if◌then◌else◌};
 ghost use Rattle.query_exec.specs.declared.sink.Sink.TheVariants as sink;
-ghost use Rattle.query_exec.specs.Sink.{room_behind, spare_of, SinkGives, SinkMakes, MayFinish, MayPush, PushesOn};
+ghost use Rattle.query_exec.specs.Sink.{room_behind, spare_of, SinkGives, MayFinish, MayPush, PushesOn};
 
-use crate::intermediate::Intermediate;
 use crate::kept::Kept;
 use block_filter::Passed;
 use query_plan::Slice;
@@ -27,6 +26,13 @@ pub(crate) struct SliceSink {
     pub(crate) kept: Kept,
     pub(crate) slice: Slice,
     pub(crate) count: u64,
+}
+
+/// Returns how many rows there are if `slice` counts them.
+fn count_if_asked(slice: Slice, count: u64) -> Option<u64>
+    ensures { result ≡ (if slice.counts then Some count else None) }
+{
+    if slice.counts { Some(count) } else { None }
 }
 
 impl SliceSink {
@@ -61,33 +67,12 @@ impl SliceSink {
         Ok(())
     }
 
-    /// Returns what is kept, and the number of the rows, if that is asked for.
-    fn parts(self) -> (Kept, Option<u64>)
-        ensures kept { result.0 ≡ self.kept }
-        ensures count { result.1 ≡ (if self.slice.counts then Some self.count else None) }
-    {
-        let SliceSink { kept, slice, count } = self;
-        let count = if slice.counts { Some(count) } else { None };
-        (kept, count)
-    }
-
-    /// Returns the piece of all rows that joined, as an answer. It takes no memory.
-    pub(crate) fn into_rows(self) -> Rows
+    /// Returns the piece of all rows that joined. It takes no memory.
+    pub(crate) fn finish(self) -> Rows
         requires { MayFinish (sink.Slice self) }
         ensures { SinkGives (sink.Slice self) result }
     {
-        let (kept, count) = self.parts();
-        kept.into_rows(count)
-    }
-
-    /// Returns the piece of all rows that joined.
-    #[tactic(auto, using(crate::proofs::SliceLemmas::slice_finishes))]
-    pub(crate) fn finish(self, alloc: Global) -> Result<Intermediate, AllocError>
-        requires { MayFinish (sink.Slice self) }
-        ensures { IfOk result (SinkMakes (sink.Slice self)) }
-    {
-        let (kept, count) = self.parts();
-        let made = kept.whole(alloc, count)?;
-        Ok(made)
+        let SliceSink { kept, slice, count } = self;
+        kept.into_rows(count_if_asked(slice, count))
     }
 }

@@ -1,133 +1,145 @@
-//! The steps of a plan on a result.
-ghost use Rattle.std.specs.Prelude.{◌≡◌, ◌<◌, IfOk, length, map};
+//! The steps of a plan on rows.
+ghost use Rattle.std.specs.Prelude.{◌≡◌, ◌<◌, IfOk, Some, length, map};
 ghost use Rattle.std.specs.List.{All};
+ghost use Rattle.typed_trees.specs.TypedTree.{truth_view};
 ghost use Rattle.odata_query.specs.Aggregate.{named_view};
 ghost use Rattle.odata_query.specs.Query.{order_view};
 ghost use Rattle.query_plan.specs.Fitting.{IsFitNode, NodesFit};
-ghost use Rattle.query_plan.specs.Plan.{node_result, node_view, nodes_result, projecting, sorting};
+ghost use Rattle.query_plan.specs.Plan.{counted, filtering, node_result, node_rows, node_view, nodes_result, projecting, slice_view, slicing, sorting};
 ghost use Rattle.query_plan.specs.Rewrite.{chosen};
 ghost use Rattle.aggregate_rows.specs.Gathered.{lent_places};
-ghost use Rattle.query_exec.specs.Intermediate.{aggregate_node, intermediate_view, GivesIntermediate, IsIntermediate, Makes};
+ghost use Rattle.sort_rows.specs.Numbers.{GivesOrder};
+ghost use Rattle.row_selection.specs.Numbers.{numbers_from};
+ghost use Rattle.query_exec.specs.Steps.{aggregate_node, GivesResult};
 
-use crate::intermediate::Intermediate;
+use crate::every::all_numbers;
 use crate::names::aggregate_names;
 use aggregate_rows::gathered;
 use odata_query::{NamedAggregate, OrderBy};
-use query_plan::Node;
-use result_rows::picked_names;
+use query_plan::{Node, Slice};
+use result_rows::{Rows, picked_names};
 use row_eval::EvalFault;
 use sort_rows::{best_numbers, passing_numbers, piece, sorted_numbers};
 use std::alloc::{AllocError, Global};
-use std::mem;
+use typed_trees::TruthExpr;
 
 /// Returns the values of some columns.
-fn project(
-    alloc: Global,
-    input: &Intermediate,
-    places: &[usize],
-) -> Result<Intermediate, AllocError>
-    requires input { IsIntermediate input.now }
-    requires places { All (λ place. place < length input.now.names.items) places.now }
-    ensures { IfOk result (Makes (node_result (projecting places.now)
-        (intermediate_view input.now))) }
+fn project(alloc: Global, input: &Rows, places: &[usize]) -> Result<Rows, AllocError>
+    requires { All (λ place. place < length input.now.names) places.now }
+    ensures { IfOk result (λ made. node_result (projecting places.now) input.now ≡ Some made) }
 {
-    let columns = input
-        .columns
-        .picked(alloc, places, input.numbers.as_slice())?;
-    let names = picked_names(alloc, input.names.as_slice(), places)?;
-    Intermediate::whole(alloc, names, columns, input.count)
+    let all = all_numbers(alloc, input.len())?;
+    let columns = input.columns().picked(alloc, places, all.as_slice())?;
+    let names = picked_names(alloc, input.names(), places)?;
+    Ok(Rows::new(names, columns, input.count()))
 }
 
 /// Returns one row of aggregates, or a row for each group.
 fn aggregate(
     alloc: Global,
-    input: Intermediate,
+    input: &Rows,
     places: Option<&[usize]>,
     aggregates: &[NamedAggregate],
-) -> Result<Intermediate, AllocError>
-    requires input { IsIntermediate input }
-    requires fits { IsFitNode (aggregate_node (lent_places places)
-        (map named_view aggregates.now)) (intermediate_view input) }
-    ensures { IfOk result (Makes (node_result (aggregate_node (lent_places places.entry)
-        (map named_view aggregates.now)) (intermediate_view input))) }
+) -> Result<Rows, AllocError>
+    requires { IsFitNode (aggregate_node (lent_places places) (map named_view aggregates.now))
+        input.now }
+    ensures { IfOk result (λ made. node_result (aggregate_node (lent_places places.entry)
+        (map named_view aggregates.now)) input.now ≡ Some made) }
 {
-    let rows = input.into_rows(alloc)?;
-    let _few = rows.len(); // 64 bits tell how many there are
-    let columns = gathered(alloc, rows.columns(), places, aggregates)?;
-    let names = aggregate_names(alloc, rows.names(), places, aggregates)?;
-    Intermediate::whole(alloc, names, columns, rows.count())
+    let _few = input.len(); // 64 bits tell how many rows there are
+    let columns = gathered(alloc, input.columns(), places, aggregates)?;
+    let names = aggregate_names(alloc, input.names(), places, aggregates)?;
+    Ok(Rows::new(names, columns, input.count()))
 }
 
-/// Returns the rows in the order of items, or the first ones that are asked for.
-fn sort(
+/// Returns the rows on which a condition is true.
+fn filter(alloc: Global, input: Rows, condition: &TruthExpr) -> Result<Rows, EvalFault>
+    requires { IsFitNode (filtering (truth_view condition.now)) input }
+    ensures { GivesResult (node_result (filtering (truth_view condition.now)) input) result }
+{
+    let all = all_numbers(alloc, input.len())?;
+    let numbers = passing_numbers(alloc, input.columns(), all.as_slice(), condition)?;
+    let count = input.count();
+    let rows = input.with_rows(alloc, numbers.as_slice(), count)?;
+    Ok(rows)
+}
+
+/// Returns the numbers of the rows in the order of items, or of the first ones that are asked for.
+fn order(
     alloc: Global,
-    input: Intermediate,
+    input: &Rows,
     items: &[OrderBy],
     most: Option<u64>,
-) -> Result<Intermediate, EvalFault>
-    requires input { IsIntermediate input }
-    requires fits { IsFitNode (chosen (sorting (map order_view items.now)) most)
-        (intermediate_view input) }
-    ensures { GivesIntermediate (node_result (chosen (sorting (map order_view items.now)) most)
-        (intermediate_view input)) result }
+) -> Result<Vec<usize>, EvalFault>
+    requires { IsFitNode (chosen (sorting (map order_view items.now)) most) input.now }
+    ensures { GivesOrder (node_rows (chosen (sorting (map order_view items.now)) most))
+        input.now.rows (numbers_from 0 (length input.now.rows)) result }
 {
-    let mut input = input;
-    let numbers = mem::replace(&mut input.numbers, Vec::new(alloc));
+    let all = all_numbers(alloc, input.len())?;
     match most {
-        Some(most) => {
-            input.numbers = best_numbers(alloc, &input.columns, numbers, items, most)?;
-            Ok(input)
-        }
-        None => {
-            input.numbers = sorted_numbers(alloc, &input.columns, numbers, items)?;
-            Ok(input)
-        }
+        Some(most) => best_numbers(alloc, input.columns(), all, items, most),
+        None => sorted_numbers(alloc, input.columns(), all, items),
     }
 }
 
-/// Returns what a step makes of a result.
-fn apply(alloc: Global, node: &Node, input: Intermediate) -> Result<Intermediate, EvalFault>
-    requires input { IsIntermediate input }
-    requires fits { IsFitNode (node_view node.now) (intermediate_view input) }
-    ensures { GivesIntermediate (node_result (node_view node.now) (intermediate_view input))
+/// Returns the rows in the order of items, or the first ones that are asked for.
+fn sort(alloc: Global, input: Rows, items: &[OrderBy], most: Option<u64>) -> Result<Rows, EvalFault>
+    requires { IsFitNode (chosen (sorting (map order_view items.now)) most) input }
+    ensures { GivesResult (node_result (chosen (sorting (map order_view items.now)) most) input)
         result }
 {
+    let mut input = input;
+    input.list(alloc)?;
+    let numbers = order(alloc, &input, items, most)?;
+    let count = input.count();
+    let rows = input.with_rows(alloc, numbers.as_slice(), count)?;
+    Ok(rows)
+}
+
+/// Returns how many rows there are if `slice` counts them, else the count of before.
+fn count_after(input: &Rows, slice: Slice) -> Option<u64>
+    ensures { result ≡ counted (slice_view slice) input.now }
+{
+    if slice.counts {
+        Some(input.len() as u64)
+    } else {
+        input.count()
+    }
+}
+
+/// Returns a piece of the rows, and how many they are if that is asked for.
+fn cut(alloc: Global, input: Rows, slice: Slice) -> Result<Rows, AllocError>
+    ensures { IfOk result (λ made. node_result (slicing (slice_view slice)) input ≡ Some made) }
+{
+    let count = count_after(&input, slice);
+    let numbers = piece(all_numbers(alloc, input.len())?, slice.skip, slice.top);
+    let rows = input.with_rows(alloc, numbers.as_slice(), count)?;
+    Ok(rows)
+}
+
+/// Returns what a step makes of rows.
+fn apply(alloc: Global, node: &Node, input: Rows) -> Result<Rows, EvalFault>
+    requires { IsFitNode (node_view node.now) input }
+    ensures { GivesResult (node_result (node_view node.now) input) result }
+{
     match node {
-        Node::Filter(condition) => {
-            let numbers = passing_numbers(alloc, &input.columns, &input.numbers, condition)?;
-            Ok(Intermediate { numbers, ..input })
-        }
-        Node::Aggregate(aggregates) => Ok(aggregate(alloc, input, None, aggregates)?),
+        Node::Filter(condition) => filter(alloc, input, condition),
+        Node::Aggregate(aggregates) => Ok(aggregate(alloc, &input, None, aggregates)?),
         Node::Group(places, aggregates) => {
-            Ok(aggregate(alloc, input, Some(places.as_slice()), aggregates)?)
+            Ok(aggregate(alloc, &input, Some(places.as_slice()), aggregates)?)
         }
         Node::Sort(items) => sort(alloc, input, items, None),
         Node::Best(items, most) => sort(alloc, input, items, Some(*most)),
-        Node::Slice(slice) => {
-            let all = input.numbers.len() as u64;
-            let count = if slice.counts { Some(all) } else { input.count };
-            let numbers = piece(input.numbers, slice.skip, slice.top);
-            Ok(Intermediate {
-                numbers,
-                count,
-                ..input
-            })
-        }
+        Node::Slice(slice) => Ok(cut(alloc, input, *slice)?),
         Node::Project(places) => Ok(project(alloc, &input, places)?),
     }
 }
 
-/// Returns what the steps in turn make of a result.
+/// Returns what the steps in turn make of rows.
 #[tactic(auto, using(crate::proofs::StepLemmas::begins, crate::proofs::StepLemmas::step_fits, crate::proofs::StepLemmas::step_made, crate::proofs::StepLemmas::step_faults, crate::proofs::StepLemmas::all_through))]
-pub(crate) fn apply_all(
-    alloc: Global,
-    nodes: &[Node],
-    input: Intermediate,
-) -> Result<Intermediate, EvalFault>
-    requires input { IsIntermediate input }
-    requires fits { NodesFit (map node_view nodes.now) (intermediate_view input) }
-    ensures { GivesIntermediate (nodes_result (map node_view nodes.now) (intermediate_view input))
-        result }
+pub(crate) fn apply_all(alloc: Global, nodes: &[Node], input: Rows) -> Result<Rows, EvalFault>
+    requires { NodesFit (map node_view nodes.now) input }
+    ensures { GivesResult (nodes_result (map node_view nodes.now) input) result }
 {
     let mut input = input;
     for node in nodes {

@@ -3,16 +3,18 @@ ghost use Rattle.std.specs.Prelude.{◌≡◌, ◌<◌, None, IfOk, IfSome, OnOk
 ghost use Rattle.std.specs.List.{All};
 ghost use Rattle.typed_trees.specs.TypedTree.{truth_view};
 ghost use Rattle.odata_query.specs.Query.{order_view};
+ghost use Rattle.sort_rows.specs.Cutoffs.{HasCalendarDays};
 ghost use Rattle.query_exec.specs.declared.sink.Sink.TheVariants as sink;
 ghost use Rattle.query_exec.specs.Items.{none_can_fault, ItemsFit};
-ghost use Rattle.query_exec.specs.Sink.{sink_items, SinkMakes, MayFinish, MayPush, PushesOn};
+ghost use Rattle.query_exec.specs.Sink.{sink_items, SinkGives, MayFinish, MayPush, PushesOn};
 ghost use Rattle.query_exec.specs.Cutoffs.{CutsOff, HasCutoff, IsFirstColumn};
 ghost use Rattle.query_exec.specs.TopN.{AreBestOf, AreFirst, AreTimely, HasCutRows};
 
-use crate::intermediate::{Intermediate, all_numbers};
+use crate::every::all_numbers;
 use crate::kept::Kept;
 use block_filter::{Passed, Rank, guessed_value, passing_numbers};
 use odata_query::OrderBy;
+use result_rows::Rows;
 use row_eval::{EvalFault, faults_are_foreseen};
 use row_selection::Selection;
 use sort_rows::{best_in_pieces, best_numbers, cutoff, first_place, nearness, rows_are_cut_off};
@@ -48,12 +50,7 @@ pub(crate) struct TopNSink {
 impl TopNSink {
     /// Returns a sink that was cut at no row yet.
     pub(crate) fn new(kept: Kept, items: Vec<OrderBy>, most: u64) -> TopNSink
-        ensures { result ≡ record {
-          kept = kept;
-          items = items;
-          most = most;
-          cutoff = None;
-        } }
+        ensures { result ≡ record { kept = kept; items = items; most = most; cutoff = None } }
     {
         TopNSink {
             kept,
@@ -82,6 +79,7 @@ impl TopNSink {
         numbers: Selection,
     ) -> Result<Selection, AllocError>
         requires cutoff { HasCutoff self.now }
+        requires days { All HasCalendarDays block.now.rows }
         requires within { All (λ n. n < length block.now.rows) numbers }
         ensures { IfOk result (AreTimely self.now block.now.rows numbers) }
     {
@@ -102,6 +100,7 @@ impl TopNSink {
         numbers: Selection,
     ) -> Result<Selection, AllocError>
         requires safe { none_can_fault (sink_items self.now) ≡ true }
+        requires days { All HasCalendarDays block.now.rows }
         requires within { All (λ n. n < length block.now.rows) numbers }
         ensures { IfOk result (AreTimely self.now block.now.rows numbers) }
     {
@@ -208,12 +207,11 @@ impl TopNSink {
     }
 
     /// Returns the first of all rows that joined, in their order.
-    #[tactic(auto, using(crate::proofs::TopNLemmas::top_n_finishes))]
-    pub(crate) fn finish(self, alloc: Global) -> Result<Intermediate, AllocError>
+    pub(crate) fn finish(self, alloc: Global) -> Result<Rows, AllocError>
         requires { MayFinish (sink.TopN self) }
-        ensures { IfOk result (SinkMakes (sink.TopN self)) }
+        ensures { IfOk result (SinkGives (sink.TopN self)) }
     {
         let numbers = self.best(alloc)?;
-        Ok(self.kept.with_numbers(numbers, None))
+        Ok(self.kept.with_numbers(alloc, numbers.as_slice())?)
     }
 }

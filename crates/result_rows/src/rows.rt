@@ -4,6 +4,7 @@ ghost use Rattle.std.specs.List.{All, AllByRecursion};
 ghost use Rattle.cell_types.specs.Value.{value_view};
 ghost use Rattle.csvw_meta.specs.Schema.{schema_view};
 ghost use Rattle.row_eval.specs.Row.{row_view};
+ghost use Rattle.row_columns.specs.Picked.{numbered};
 ghost use Rattle.result_rows.specs.Rows.{rows_of_row};
 
 use crate::names::{names_of, picked_names};
@@ -137,6 +138,40 @@ impl Rows {
         ensures width { length result ≡ length self.now.names }
     {
         self.columns.row_ref(row)
+    }
+
+    /// Keeps the number of each row by itself, so that each is found at once.
+    pub fn list(&mut self, alloc: Global) -> Result<(), AllocError>
+        ensures { self.new ≡ self.old }
+    {
+        self.columns.list(alloc)
+    }
+
+    /// Returns the rows with these numbers, counted from 0, under the same names, and a count.
+    pub fn with_rows(
+        self,
+        alloc: Global,
+        numbers: &[usize],
+        count: Option<u64>,
+    ) -> Result<Rows, AllocError>
+        requires { All (λ number. number < length self.rows) numbers.now }
+        ensures { IfOk result (λ rows. rows ≡ record {
+          names = self.names;
+          rows = numbered numbers.now self.rows;
+          count = count;
+        }) }
+    {
+        let Rows {
+            names,
+            mut columns,
+            ..
+        } = self;
+        columns.put_in_order(alloc, numbers)?;
+        Ok(Rows {
+            names,
+            columns,
+            count,
+        })
     }
 
     /// Returns how many rows there are in all, if that was asked for.

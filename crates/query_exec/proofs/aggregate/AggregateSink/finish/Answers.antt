@@ -1,16 +1,17 @@
-use Rattle.std.proofs.Common.{◌≡◌, ap, map, rules, string_bytes, ◌∙◌}
+use Rattle.std.proofs.Common.{◌≡◌, ap, map, refl, rules, string_bytes, subst, sym, ◌∙◌}
 use Rattle.odata_query.specs.Aggregate.{aggregates_view, named_view}
 use Rattle.odata_query.specs.Query.{optional_numbers}
 use Rattle.query_plan.specs.Plan.{node_names}
 use Rattle.aggregate_rows.specs.Gathered.{lent_places}
-use Rattle.cell_types.proofs.CaseLaws.{IfOk-both}
-use Rattle.query_exec.specs.Intermediate.{aggregate_node}
+use Rattle.query_exec.specs.declared.sink.Sink.TheVariants as sink
+use Rattle.query_exec.specs.Steps.{aggregate_node, without_count}
 use Rattle.query_exec.specs.Kept.{kept_names}
+use Rattle.query_exec.specs.Sink.{SinkGives}
 use Rattle.query_exec.proofs.AggregateLemmas.{gathered_finishes, names_as_wide}
 use Rattle.query_exec.proofs.aggregate.AggregateSink.finish.Goals as goal
 
-pub whole-requires : goal.whole-requires
-whole-requires c =
+pub new-requires : goal.new-requires
+new-requires c =
     let places = optional_numbers c.args.self.places in
     let aggregates = aggregates_view c.args.self.aggregates in
     let lent : lent_places c.as_deref.result ≡ places = search rules in
@@ -32,6 +33,5 @@ returns c =
     ∙ ap (λ ps. node_names (aggregate_node ps (map named_view c.as_slice-2.result.now)) (map string_bytes c.as_slice.result.now)) lent
     ∙ ap (λ as_many. node_names (aggregate_node places (map named_view as_many)) (map string_bytes c.as_slice.result.now)) c.as_slice-2.ensures.value
     ∙ ap (λ ns. node_names (aggregate_node places aggregates) (map string_bytes ns)) c.as_slice.ensures.value in
-    IfOk-both c.whole.result _ _ _
-    (λ made view is. gathered_finishes c.args.self (map string_bytes c.in_ok-names.names.items) c.in_ok-columns.columns.rows made named c.in_ok-columns.ensures.rows view is)
-    c.whole.ensures.result c.whole.ensures.intermediate
+    subst (SinkGives (sink.Aggregate c.args.self)) (sym c.new.ensures)
+    (gathered_finishes c.args.self (without_count (map string_bytes c.in_ok-names.names.items) c.in_ok-columns.columns.rows) named c.in_ok-columns.ensures.rows refl)

@@ -1,13 +1,10 @@
-use Rattle.std.proofs.Common.{◌≡◌, ◌∙◌, Err, None, Some, [], ap, length, map, rules, subst, sym}
-use Rattle.std.proofs.lemmas.Bool.{eqb-true}
-use Rattle.std.proofs.lemmas.List.{nil_from_length}
+use Rattle.std.proofs.Common.{◌≡◌, Err, None, Some, map, rules, subst, sym}
 use Rattle.query_plan.specs.Fitting.{NodesFit}
 use Rattle.query_plan.specs.Plan.{node_view, nodes_result}
-use Rattle.query_exec.specs.Intermediate.{intermediate_view, GivesIntermediate, Makes}
+use Rattle.query_exec.specs.Steps.{GivesResult}
 use Rattle.query_exec.specs.Run.{wanted_block}
-use Rattle.query_exec.specs.Sink.{MayFinish, SinkGives, SinkMakes}
-use Rattle.query_exec.proofs.FrontLemmas.{answer_given}
-use Rattle.query_exec.proofs.RunLemmas.{answer_made, fault_goes_on, may_finish, steps_fit, sunk_is}
+use Rattle.query_exec.specs.Sink.{MayFinish, SinkGives}
+use Rattle.query_exec.proofs.RunLemmas.{answer_made, fault_goes_on, may_finish, steps_fit}
 use Rattle.query_exec.proofs.run.Run.go_on.Goals as goal
 
 pub finish-requires : goal.finish-requires
@@ -17,36 +14,14 @@ finish-requires c =
     let is : c.replace-sink.result ≡ old.sink = search rules in
     subst MayFinish (sym is) (may_finish old (c.requires beyond) c.if-self.false c.nodes_in_turn.ensures)
 
-pub into_rows-requires : goal.into_rows-requires
-into_rows-requires c =
-    let old = c.args.self.now in
-    let beyond : wanted_block old ≡ None = search rules in
-    let is : c.replace-sink.result ≡ old.sink = search rules in
-    subst MayFinish (sym is) (may_finish old (c.requires beyond) c.if-self.false c.nodes_in_turn.ensures)
-
-pub returns-then-is_empty : goal.returns-then-is_empty
-returns-then-is_empty c =
-    let old = c.args.self.now in
-    let beyond : wanted_block old ≡ None = search rules in
-    let is : c.replace-sink.result ≡ old.sink = search rules in
-    let none : map node_view old.steps.items ≡ [] = ap (map node_view) (nil_from_length old.steps.items (eqb-true (length old.steps.items) 0 (search rules))) in
-    (beyond, answer_given old c.in_ok-into_rows.field-0 c.if-self.false none (subst (λ s. SinkGives s c.in_ok-into_rows.field-0) is c.in_ok-into_rows.ensures))
-
-pub apply_all-requires-clause-input : goal.apply_all-requires-clause-input
-apply_all-requires-clause-input c =
-    let old = c.args.self.now in
-    let beyond : wanted_block old ≡ None = search rules in
-    let is : c.replace-sink.result ≡ old.sink = search rules in
-    sunk_is old (c.requires beyond) c.if-self.false c.nodes_in_turn.ensures c.in_ok-sunk.sunk (subst (λ s. SinkMakes s c.in_ok-sunk.sunk) is c.in_ok-sunk.ensures)
-
-pub apply_all-requires-clause-fits : goal.apply_all-requires-clause-fits
-apply_all-requires-clause-fits c =
+pub apply_all-requires : goal.apply_all-requires
+apply_all-requires c =
     let old = c.args.self.now in
     let beyond : wanted_block old ≡ None = search rules in
     let is : c.replace-sink.result ≡ old.sink = search rules in
     let steps_are : c.deref.result.now ≡ old.steps.items = search rules in
-    subst (λ steps. NodesFit (map node_view steps) (intermediate_view c.in_ok-sunk.sunk)) (sym steps_are)
-    (steps_fit old (c.requires beyond) c.if-self.false c.nodes_in_turn.ensures c.in_ok-sunk.sunk (subst (λ s. SinkMakes s c.in_ok-sunk.sunk) is c.in_ok-sunk.ensures))
+    subst (λ steps. NodesFit (map node_view steps) c.in_ok-sunk.sunk) (sym steps_are)
+    (steps_fit old (c.requires beyond) c.if-self.false c.nodes_in_turn.ensures c.in_ok-sunk.sunk (subst (λ s. SinkGives s c.in_ok-sunk.sunk) is c.in_ok-sunk.ensures))
 
 pub returns-in_err-made : goal.returns-in_err-made
 returns-in_err-made c =
@@ -55,8 +30,8 @@ returns-in_err-made c =
     let beyond : wanted_block old ≡ None = search rules in
     let is : c.replace-sink.result ≡ old.sink = search rules in
     let steps_are : c.deref.result.now ≡ old.steps.items = search rules in
-    let gives = subst (λ steps. GivesIntermediate (nodes_result (map node_view steps) (intermediate_view c.in_ok-sunk.sunk)) (Err fault)) steps_are c.in_err-made.ensures in
-    fault_goes_on old (c.requires beyond) c.if-self.false c.nodes_in_turn.ensures c.in_ok-sunk.sunk (subst (λ s. SinkMakes s c.in_ok-sunk.sunk) is c.in_ok-sunk.ensures)
+    let gives = subst (λ steps. GivesResult (nodes_result (map node_view steps) c.in_ok-sunk.sunk) (Err fault)) steps_are c.in_err-made.ensures in
+    fault_goes_on old (c.requires beyond) c.if-self.false c.nodes_in_turn.ensures c.in_ok-sunk.sunk (subst (λ s. SinkGives s c.in_ok-sunk.sunk) is c.in_ok-sunk.ensures)
     _ fault c.from_residual-in_err-made.result beyond gives c.from_residual-in_err-made.ensures.1
 
 pub returns : goal.returns
@@ -65,9 +40,8 @@ returns c =
     let beyond : wanted_block old ≡ None = search (rules, c.wanted.ensures, c.is_some.ensures, c.if-is_some.false, c.if-is_some.ensures) in
     let is : c.replace-sink.result ≡ old.sink = search (rules, c.replace-sink.ensures.value) in
     let steps_are : c.deref.result.now ≡ old.steps.items = search (rules, c.deref.ensures.value, c.replace-sink.ensures.after) in
-    let makes : Makes (nodes_result (map node_view old.steps.items) (intermediate_view c.in_ok-sunk.sunk)) c.in_ok-made.made =
-    subst (λ steps. Makes (nodes_result (map node_view steps) (intermediate_view c.in_ok-sunk.sunk)) c.in_ok-made.made) steps_are c.in_ok-made.ensures in (
+    let makes : nodes_result (map node_view old.steps.items) c.in_ok-sunk.sunk ≡ Some c.in_ok-made.made =
+    subst (λ steps. nodes_result (map node_view steps) c.in_ok-sunk.sunk ≡ Some c.in_ok-made.made) steps_are c.in_ok-made.ensures in (
       beyond,
-      answer_made old (c.requires beyond) c.if-self.false c.nodes_in_turn.ensures c.in_ok-sunk.sunk (subst (λ s. SinkMakes s c.in_ok-sunk.sunk) is c.in_ok-sunk.ensures) _
-          (makes.result ∙ ap Some (sym c.in_ok-into_rows-2.ensures)),
+      answer_made old (c.requires beyond) c.if-self.false c.nodes_in_turn.ensures c.in_ok-sunk.sunk (subst (λ s. SinkGives s c.in_ok-sunk.sunk) is c.in_ok-sunk.ensures) _ makes,
     )

@@ -8,7 +8,7 @@ use Rattle.query_exec.proofs.run.Run.step.Goals.{in-Some+in_ok-take_in, in_defau
 pub take_in-requires : goal.take_in-requires
 take_in-requires c =
     block_may_be_taken c.args.self.now c.requires.0 c.requires.1 c.requires.2 c.requires.3 c.conditions_in_turn.ensures c.in-Some.block (sym c.in-Some.is ∙ c.requires.4)
-    c.nodes_in_turn.ensures c.scans_read_table_rows.ensures c.values_fit.ensures
+    c.nodes_in_turn.ensures c.scans_read_table_rows.ensures c.tables_are_inputs.ensures c.values_fit.ensures
 
 pub go_on-requires : goal.go_on-requires
 go_on-requires c =

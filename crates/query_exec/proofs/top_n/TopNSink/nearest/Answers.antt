@@ -26,4 +26,4 @@ returns c =
     let made : near ≡ filter (λ n. passes e (get_or rows n [])) numbers = c.in_ok-near.ensures in
     let enough : s.most ≤ length near = search rules in
     near_are_timely c.rows_are_cut_off.ensures s e c.in-Some.col bound rows numbers near (safe_never_faults c.faults_are_foreseen.ensures (sink_items s) c.requires.safe) c.in-Some.ensures
-    is c.requires.within made enough
+    is c.requires.days c.requires.within made enough

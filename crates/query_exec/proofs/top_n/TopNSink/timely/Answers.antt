@@ -22,4 +22,4 @@ returns-in-Some c =
     let e = truth_view c.in-Some.cutoff in
     let cuts : CutsOff (sink_items s) s.most s.kept e = rw c.in-Some.is at c.requires.cutoff in
     IfOk-weaker c.passing_numbers.result (λ made. made ≡ filter (λ n. passes e (get_or rows n [])) numbers) (AreTimely s rows numbers)
-    (λ (made : List ℕ) is. passing_are_timely s e rows numbers made cuts c.requires.within is) c.passing_numbers.ensures
+    (λ (made : List ℕ) is. passing_are_timely s e rows numbers made cuts c.requires.days c.requires.within is) c.passing_numbers.ensures

@@ -1,0 +1,39 @@
+-- The dates of the rows of a table.
+use Rattle.std.proofs.Common.{inl, inr, ℕ, zero, suc, List, [], ◌∷◌, get_or, length, sym, subst, arith}
+use Rattle.std.specs.Prelude.{IfSome}
+use Rattle.std.specs.List.{All}
+use Rattle.std.proofs.lemmas.Bool.{cases_lt}
+use Rattle.std.proofs.lemmas.List.{get_or_past}
+use Rattle.cell_types.specs.Value.{CellValue, date}
+use Rattle.odata_types.specs.declared.types.ColumnType.{ColumnType}
+use Rattle.odata_types.specs.declared.types.ColumnType.TheVariants as column
+use Rattle.odata_types.specs.Columns.{InputOf}
+use Rattle.odata_types.specs.Input.{IsOfType, IsRowOf}
+use Rattle.odata_types.specs.Laws.{TablesAreInputs}
+use Rattle.row_eval.specs.Laws.{IsCalendarDay}
+use Rattle.row_eval.specs.Row.{day_in}
+use Rattle.table_store.specs.Fits.{HasTableRows}
+use Rattle.table_store.specs.Table.{TableOf}
+use Rattle.sort_rows.specs.Cutoffs.{HasCalendarDays}
+
+value_day : (type : ColumnType) (v : CellValue) → IsOfType type v → IfSome (day_in v) IsCalendarDay
+value_day column.Date (date y m d) is = (is.1, is.2)
+value_day type (date y m d) is = absurd is
+value_day type v is = tt
+
+row_days : (columns : List InputOf) (row : List CellValue) → IsRowOf columns row → HasCalendarDays row
+row_days [] [] is place = tt
+row_days (c ∷ cs) (v ∷ vs) is zero = value_day c.column_type v is.0
+row_days (c ∷ cs) (v ∷ vs) is (suc place) = row_days cs vs is.1 place
+row_days cs vs is place = absurd is
+
+-- they are days of the calendar
+pub table_days : TablesAreInputs → (table : TableOf) → HasTableRows table → All HasCalendarDays table.rows
+table_days law table rows = λ k d h. row_days _ (get_or table.rows k d) (law.rows table.schema (get_or table.rows k d) (rows.each k d h))
+
+-- and a row that there is not has none
+pub days_at : (rows : List (List CellValue)) → All HasCalendarDays rows → (n : ℕ) → HasCalendarDays (get_or rows n [])
+days_at rows days n = elim (cases_lt n (length rows)) [
+  | inl less ↦ days n [] less
+  | inr more ↦ subst HasCalendarDays (sym (get_or_past rows n [] (omega (arith, more)))) (λ place. tt)
+]

@@ -1,0 +1,15 @@
+use Rattle.std.proofs.Common.{map, subst, sym}
+use Rattle.odata_query.specs.Query.{order_view}
+use Rattle.sort_rows.specs.Runs.{HasInRuns, HasMoreRows}
+use Rattle.query_exec.proofs.SortedLemmas.{has_more_rows, sorted_pushed}
+use Rattle.query_exec.proofs.sorted.SortedSink.push.Goals as goal
+
+pub push-requires : goal.push-requires
+push-requires c =
+    subst (λ is. HasMoreRows (map order_view is) c.args.self.now.runs c.take.new.self.columns.rows) (sym c.deref.ensures.value)
+    (has_more_rows c.args.self.now c.take.new.self c.args.block.now c.args.found c.requires c.in_ok-take.ensures)
+
+pub returns : goal.returns
+returns c =
+    sorted_pushed c.args.self.now c.take.new.self c.push.new.self c.args.block.now.rows c.args.found c.in_ok-take.ensures
+    (subst (λ is. HasInRuns (map order_view is) c.push.new.self c.take.new.self.columns.rows) c.deref.ensures.value c.in_ok-push.ensures)
