@@ -5,9 +5,10 @@
 mod ahead;
 mod put;
 mod rooms;
+mod row_sizes;
 mod sizes;
 
 pub use ahead::{none_seen, read_ahead};
 pub use put::{put_csv_cell, put_json_cell};
 pub use rooms::{csv_cell_room, json_cell_room};
-pub use sizes::{csv_cell_size, json_cell_size};
+pub use row_sizes::{Frame, put_sizes, row_size};

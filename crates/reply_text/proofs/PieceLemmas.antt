@@ -74,7 +74,7 @@ join_is : (piece : List ℕ) (pieces : List (List ℕ)) → join_with_byte 44 (p
 join_is piece [] = sym (append-nil piece)
 join_is piece (next ∷ pieces) = ap (λ l. piece ++ (44 ∷ l)) (join_is next pieces)
 
-comma_there : (place : ℕ) → 0 < place → comma_before place ≡ 44 ∷ []
+pub comma_there : (place : ℕ) → 0 < place → comma_before place ≡ 44 ∷ []
 comma_there zero some = absurd (omega (arith, some))
 comma_there (suc place) some = grind (arith, tests)
 

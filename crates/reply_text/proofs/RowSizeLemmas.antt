@@ -1,17 +1,23 @@
 -- Sizes of first rows, counted on from where they have come.
-use Rattle.std.proofs.Common.{◌≡◌, ◌<◌, ◌≤◌, ℕ, zero, suc, ◌+◌, List, [], ◌∷◌, ◌++◌, get_or, length, map, take, refl, sym, ap, ◌∙◌, subst, arith, append-nil, length-append}
-use Rattle.std.specs.Prelude.{max}
-use Rattle.std.proofs.lemmas.List.{length-map, map-append, take-append-le, take_all}
+use Rattle.std.proofs.Common.{◌≡◌, ◌<◌, ◌≤◌, ℕ, zero, suc, ◌+◌, ◌-◌, List, [], ◌∷◌, ◌++◌, get_or, length, map, take, refl, sym, ap, ◌∙◌, subst, arith, append-nil, length-append}
+use Rattle.std.specs.Prelude.{max, true, false}
+use Rattle.std.specs.List.{All, flat_map}
+use Rattle.std.proofs.lemmas.List.{get_or-map, length-map, map-append, take-append-le, take_all}
 use Rattle.cell_types.specs.Value.{CellValue}
 use Rattle.result_rows.specs.Rows.{BeginWith, RowsOf}
 use Rattle.reply_text.specs.declared.row_sizes.RowSizes.{RowSizes}
 use Rattle.reply_text.specs.Csv.{csv_line, row_line}
 use Rattle.reply_text.specs.Json.{comma_before, json_row}
 use Rattle.reply_text.specs.Pieces.{csv_pieces, json_items, json_opening, json_pieces, AreSizesOf}
-use Rattle.reply_text.specs.RowSizes.{AreCsvSizes, AreFirstSizes, AreJsonSizes, CountFirst}
+use Rattle.reply_text.specs.RowSizes.{AreCsvSizes, AreFirstSizes, AreJsonSizes, AreRowsIn, CountFirst, IsObjectFrame}
+use Rattle.cell_texts.specs.Sizes.{frame_at}
+use Rattle.cell_texts.specs.declared.row_sizes.Frame.{Frame}
+use Rattle.reply_values.specs.Csv.{csv_value}
+use Rattle.reply_values.specs.Json.{json_value}
 use Rattle.reply_values.specs.Size.{told}
 use Rattle.reply_text.proofs.BoundLemmas.{sizes_before, sizes_more}
-use Rattle.reply_text.proofs.PieceLemmas.{end_at, items_count}
+use Rattle.reply_text.proofs.PieceLemmas.{comma_there, end_at, item_is, items_count}
+use Rattle.reply_text.proofs.SizeLemmas.{length-line, object_told}
 
 -- ---- the pieces of first rows are the first pieces
 
@@ -89,3 +95,29 @@ csv_all rows sizes count line now last whole_is are line_is now_is last_is =
     let is : count ≡ length rows.rows = sym are.len ∙ whole_is in
     let every : take count lines ≡ lines = take_all count lines (omega (arith, is, length-map rows.rows row_line)) in
     sizes_before (csv_line rows.names) lines _ _ line now last (subst (λ l. AreSizesOf l sizes.sizes.all sizes.sizes.longest) every are.counted) line_is now_is last_is
+
+-- ---- rows with their frames
+
+pub objects_in : (names : List (List ℕ)) (rows : List (List CellValue)) (frame : Frame) → All (λ (row : List CellValue). length row ≡ length names) rows → IsObjectFrame names frame
+    → AreRowsIn true frame rows (json_items names 0 rows)
+objects_in names rows frame wide is = record {
+  within = omega (arith, items_count names 0 rows);
+  each = λ i inside. sym (object_told names (get_or rows i []) (comma_before i) frame.first _ (wide i [] inside) is.first (told_comma i) ∙ ap (λ p. told (length p)) (sym (item_is names rows i inside)));
+}
+  where
+    told_comma : (i : ℕ) → told (frame_at frame i + length (flat_map json_value (get_or rows i []))) ≡ told (frame.first + length (flat_map json_value (get_or rows i [])) + length (comma_before i))
+    told_comma zero = omega arith
+    told_comma (suc i) = omega (arith, is.more, ap (λ (l : List ℕ). length l) (comma_there (suc i) (omega arith)))
+
+pub lines_in : (rows : List (List CellValue)) (width : ℕ) (frame : Frame) → All (λ (row : List CellValue). length row ≡ width) rows → frame.first ≡ told (width - 1 + 2) → frame.more ≡ 0
+    → AreRowsIn false frame rows (map row_line rows)
+lines_in rows width frame wide first_is more_is = record {
+  within = omega (arith, length-map rows row_line);
+  each = λ i inside.
+      ap (λ (p : List ℕ). told (length p)) (get_or-map row_line rows i [] [] inside) ∙ told_line i (length-line (get_or rows i []) width (wide i [] inside));
+}
+  where
+    told_line : (i : ℕ) → length (row_line (get_or rows i [])) ≡ length (flat_map csv_value (get_or rows i [])) + (width - 1) + 2
+        → told (length (row_line (get_or rows i []))) ≡ told (frame_at frame i + length (flat_map csv_value (get_or rows i [])))
+    told_line zero is = omega (arith, is, first_is)
+    told_line (suc i) is = omega (arith, is, first_is, more_is)

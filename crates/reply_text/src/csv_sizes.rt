@@ -1,15 +1,15 @@
 //! How many bytes rows take as CSV (RFC 4180, section 2). None is written.
-ghost use Rattle.std.specs.Prelude.{◌≡◌, ◌<◌, ◌≤◌, [], get_or, length, map, string_bytes};
+ghost use Rattle.std.specs.Prelude.{◌≡◌, ◌≤◌, length, map, string_bytes};
 ghost use Rattle.std.specs.List.{flat_map};
 ghost use Rattle.reply_text.specs.Csv.{csv_line, csv_text, row_line};
 ghost use Rattle.reply_text.specs.Pieces.{csv_pieces, AreSizesOf};
 ghost use Rattle.reply_text.specs.RowSizes.{CountFirst, HaveCsvSizes};
-ghost use Rattle.reply_values.specs.Csv.{csv_value};
 ghost use Rattle.reply_values.specs.Size.{told};
 
+use crate::counted::with_rows;
 use crate::row_sizes::RowSizes;
 use crate::sizes::Sizes;
-use cell_texts::{csv_cell_size, none_seen, read_ahead};
+use cell_texts::Frame;
 use result_rows::Rows;
 use row_columns::Columns;
 
@@ -33,44 +33,19 @@ pub(crate) fn name_line_size(names: &[String]) -> usize
         .saturating_add(2)
 }
 
-/// Returns how many bytes the values of the row with a number take.
-fn values_size(columns: &Columns, row: usize) -> usize
-    requires { row < length columns.now.rows }
-    ensures { result ≡ told (length (flat_map csv_value (get_or columns.now.rows row []))) }
-{
-    columns.rows_are_wide();
-    let values = columns.row_ref(row);
-    let mut size = 0usize;
-    for col in 0..columns.width() {
-        size = size.saturating_add(csv_cell_size(values.cell(col)));
-    }
-    size
-}
-
-/// Returns how many bytes the row with a number takes, with its commas and its line break.
-pub(crate) fn line_size(columns: &Columns, row: usize) -> usize
-    requires { row < length columns.now.rows }
-    ensures { result ≡ told (length (row_line (get_or columns.now.rows row []))) }
-{
-    columns.rows_are_wide();
-    values_size(columns, row)
-        .saturating_add(columns.width().saturating_sub(1))
-        .saturating_add(2)
-}
-
 /// Returns the sizes with those of the rows from a number on, as lines.
 pub fn with_lines(before: Sizes, columns: &Columns, first: usize) -> Sizes
     requires { first ≤ length columns.now.rows }
     ensures { let lines = map row_line columns.now.rows in
         CountFirst first lines before → CountFirst (length columns.now.rows) lines result }
 {
-    let mut sizes = before;
-    let mut seen = none_seen(columns.len() - first);
-    for row in first..columns.len() {
-        seen = read_ahead(columns, row, seen);
-        sizes = sizes.with(line_size(columns, row));
-    }
-    Sizes { seen, ..sizes }
+    columns.rows_are_wide();
+    let frame = columns.width().saturating_sub(1).saturating_add(2);
+    let frame = Frame {
+        first: frame,
+        more: 0,
+    };
+    with_rows::<false>(before, columns, first, frame)
 }
 
 /// Returns how many bytes the lines of rows take as CSV, of which some first rows were counted.

@@ -1,17 +1,16 @@
 //! How many bytes rows take as JSON (RFC 8259). None is written.
-ghost use Rattle.std.specs.Prelude.{◌≡◌, ◌+◌, [], ◌<◌, ◌≤◌, get_or, length, map, string_bytes};
+ghost use Rattle.std.specs.Prelude.{◌≡◌, ◌≤◌, length, map, string_bytes};
 ghost use Rattle.std.specs.List.{flat_map};
-ghost use Rattle.reply_text.specs.Body.{row_text, rows_text};
-ghost use Rattle.reply_text.specs.Json.{comma_before, json_count};
+ghost use Rattle.reply_text.specs.Json.{json_count};
 ghost use Rattle.reply_text.specs.Pieces.{json_items, json_opening, json_pieces, AreSizesOf};
-ghost use Rattle.reply_text.specs.RowSizes.{CountFirst, HaveJsonSizes};
+ghost use Rattle.reply_text.specs.RowSizes.{CountFirst, HaveJsonSizes, IsObjectFrame};
 ghost use Rattle.reply_text.specs.Size.{member_name, row_frame};
-ghost use Rattle.reply_values.specs.Json.{json_value};
 ghost use Rattle.reply_values.specs.Size.{told};
 
+use crate::counted::with_rows;
 use crate::row_sizes::RowSizes;
 use crate::sizes::Sizes;
-use cell_texts::{json_cell_size, none_seen, read_ahead};
+use cell_texts::Frame;
 use reply_values::{number_size, text_size};
 use result_rows::Rows;
 use row_columns::Columns;
@@ -38,33 +37,13 @@ pub(crate) fn frame_size(names: &[String]) -> usize
         .saturating_add(2)
 }
 
-/// Returns how many bytes a row takes, with `frame` bytes other than its values.
-fn object_size(columns: &Columns, row: usize, frame: usize) -> usize
-    requires { row < length columns.now.rows }
-    ensures { result ≡ told (frame
-        + length (flat_map json_value (get_or columns.now.rows row []))) }
+/// Returns how many bytes rows take without their values, each but the first with the comma before it.
+pub(crate) fn object_frame(names: &[String]) -> Frame
+    ensures { IsObjectFrame (map string_bytes names.now) result }
 {
-    columns.rows_are_wide();
-    let values = columns.row_ref(row);
-    let mut size = frame;
-    for col in 0..columns.width() {
-        size = size.saturating_add(json_cell_size(values.cell(col)));
-    }
-    size
-}
-
-/// Returns the same with the comma before it.
-pub(crate) fn item_size(columns: &Columns, row: usize, frame: usize) -> usize
-    requires { row < length columns.now.rows }
-    ensures { result ≡ told (frame
-        + length (flat_map json_value (get_or columns.now.rows row []))
-        + length (comma_before row)) }
-{
-    let size = object_size(columns, row, frame);
-    if row == 0 {
-        size
-    } else {
-        size.saturating_add(1)
+    Frame {
+        first: frame_size(names),
+        more: 1,
     }
 }
 
@@ -76,14 +55,7 @@ pub fn with_objects(before: Sizes, names: &[String], columns: &Columns, first: u
         CountFirst first items before → CountFirst (length columns.now.rows) items result }
 {
     columns.rows_are_wide();
-    let frame = frame_size(names);
-    let mut sizes = before;
-    let mut seen = none_seen(columns.len() - first);
-    for row in first..columns.len() {
-        seen = read_ahead(columns, row, seen);
-        sizes = sizes.with(item_size(columns, row, frame));
-    }
-    Sizes { seen, ..sizes }
+    with_rows::<true>(before, columns, first, object_frame(names))
 }
 
 /// Returns how many bytes the number of rows takes, if it was asked for.

@@ -5,10 +5,10 @@ ghost use Rattle.reply_text.specs.Pieces.{json_items};
 ghost use Rattle.reply_text.specs.RowSizes.{CountFirst, HaveJsonSizes};
 ghost use Rattle.row_columns.specs.Numbers.{numbers_from};
 
-use crate::json_sizes::{frame_size, item_size};
+use crate::json_sizes::object_frame;
 use crate::row_sizes::RowSizes;
 use crate::sizes::Sizes;
-use cell_texts::none_seen;
+use cell_texts::{none_seen, row_size};
 use result_rows::Rows;
 use row_columns::Columns;
 use std::alloc::{AllocError, Global};
@@ -24,10 +24,10 @@ fn sizes_in_turns(names: &[String], columns: &Columns, turns: &[usize]) -> Sizes
         (json_items (map string_bytes names.now) 0 columns.now.rows) result }
 {
     columns.rows_are_wide();
-    let frame = frame_size(names);
+    let frame = object_frame(names);
     let mut sizes = Sizes::none();
     for row in turns {
-        sizes = sizes.with(item_size(columns, *row, frame));
+        sizes = sizes.with(row_size::<true>(columns, *row, frame.at(*row)));
     }
     let seen = none_seen(turns.len());
     Sizes { seen, ..sizes }

@@ -4,6 +4,7 @@
 #![tactic(auto)]
 
 mod body;
+mod counted;
 mod csv_rows;
 mod csv_sizes;
 mod cursor;

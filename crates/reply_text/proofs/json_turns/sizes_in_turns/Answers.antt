@@ -1,16 +1,18 @@
-use Rattle.std.proofs.Common.{◌≡◌, ◌<◌, ◌≤◌, ◌∙◌, [], ap, arith, get_or, length, map, string_bytes, subst, sym, take, rules}
+use Rattle.std.proofs.Common.{◌≡◌, ◌<◌, ◌≤◌, ◌∙◌, List, [], ap, arith, get_or, length, map, string_bytes, subst, sym, take, rules}
+use Rattle.std.specs.List.{All}
 use Rattle.std.proofs.lemmas.List.{get_or-map, length-map, take_all}
-use Rattle.reply_text.specs.Json.{comma_before}
+use Rattle.cell_types.specs.Value.{CellValue}
 use Rattle.reply_text.specs.Pieces.{json_items, AreSizesOf}
 use Rattle.reply_values.specs.Size.{told}
 use Rattle.reply_text.proofs.BoundLemmas.{sizes_more}
-use Rattle.reply_text.proofs.PieceLemmas.{item_is, items_count}
-use Rattle.reply_text.proofs.SizeLemmas.{length_mapped, object_told}
+use Rattle.reply_text.proofs.PieceLemmas.{items_count}
+use Rattle.reply_text.proofs.RowSizeLemmas.{objects_in}
+use Rattle.reply_text.proofs.SizeLemmas.{length_mapped}
 use Rattle.reply_text.proofs.TurnLemmas.{in_turns, piece_at, turns_within}
 use Rattle.reply_text.proofs.json_turns.sizes_in_turns.Goals as goal
 
-pub item_size-requires : goal.item_size-requires
-item_size-requires c =
+pub row_size-requires : goal.row_size-requires
+row_size-requires c =
     let i = c.loop-row.row-index in
     let inside : i < length c.args.turns.now = search rules in
     turns_within (length c.args.columns.now.rows) c.args.turns.now c.requires.turns i 0 inside
@@ -25,10 +27,12 @@ loop-row-preserved c =
     let inside : i < length turns = search rules in
     let row = get_or turns i 0 in
     let within : row < length rows = turns_within (length rows) turns c.requires.turns i 0 inside in
-    let wide : length (get_or rows row []) ≡ length names = c.rows_are_wide.ensures row [] within ∙ c.requires.width ∙ sym (length_mapped string_bytes c.args.names.now) in
+    let wide : All (λ (row : List CellValue). length row ≡ length names) rows =
+    λ k d h. c.rows_are_wide.ensures k d h ∙ c.requires.width ∙ sym (length_mapped string_bytes c.args.names.now) in
+    let are = objects_in names rows c.object_frame-frame.result wide c.object_frame-frame.ensures in
+    let size : c.row_size.result ≡ told (length (get_or items row [])) = omega (arith, c.row_size.ensures, c.at.ensures, are.each row within) in
     sizes_more (map (piece_at items) turns) i _ _ _ _ _ (omega (arith, inside, length-map turns (piece_at items))) c.loop-row.invariant
-    (object_told names (get_or rows row []) (comma_before row) _ _ wide c.frame_size-frame.ensures c.item_size.ensures
-    ∙ ap (λ p. told (length p)) (sym (get_or-map (piece_at items) turns i 0 [] inside ∙ item_is names rows row within)))
+    (size ∙ ap (λ p. told (length p)) (sym (get_or-map (piece_at items) turns i 0 [] inside)))
     c.with-sizes.ensures.all c.with-sizes.ensures.longest
 
 pub returns : goal.returns

@@ -1,0 +1,56 @@
+-- Sizes of rows, value by value and column by column.
+use Rattle.std.proofs.Common.{◌≡◌, ℕ, ◌+◌, ◌<◌, ◌≤◌, List, [], ◌∷◌, ◌++◌, Some, drop, get_or, length, map, take, ap, sym, ◌∙◌, arith, length-append}
+use Rattle.std.specs.Prelude.{slice_get}
+use Rattle.std.specs.List.{All, flat_map}
+use Rattle.std.proofs.lemmas.List.{get_or-drop, get_or-map, get_or-take, length-drop, length-map, length-take, take_all, take_more}
+use Rattle.std.proofs.lemmas.Option.{get_or_from_slice_get, slice_get-get_or, same_Some}
+use Rattle.cell_types.specs.Value.{CellValue, null}
+use Rattle.reply_values.specs.Size.{told}
+
+flat_push : {X : Type 0} (f : X → List ℕ) (xs : List X) (x : X) → length (flat_map f (xs ++ x ∷ [])) ≡ length (flat_map f xs) + length (f x)
+flat_push f [] x = omega (arith, length-append (f x) [])
+flat_push f (first ∷ xs) x =
+    omega (arith, length-append (f first) (flat_map f (xs ++ x ∷ [])), length-append (f first) (flat_map f xs), flat_push f xs x)
+
+-- one value more
+pub value_more : (f : CellValue → List ℕ) (values : List CellValue) (value : CellValue) (start col size after : ℕ) → col < length values → get_or values col null ≡ value
+    → size ≡ told (start + length (flat_map f (take col values))) → after ≡ told (size + length (f value)) → after ≡ told (start + length (flat_map f (take (col + 1) values)))
+value_more f values value start col size after within is so_far after_is =
+    let longer : length (flat_map f (take (col + 1) values)) ≡ length (flat_map f (take col values)) + length (f value) =
+    ap (λ l. length (flat_map f l)) (take_more values col null within) ∙ flat_push f (take col values) (get_or values col null)
+    ∙ ap (λ v. length (flat_map f (take col values)) + length (f v)) is in
+    omega (arith, longer, so_far, after_is)
+
+-- all of them
+pub every_value : (f : CellValue → List ℕ) (values : List CellValue) (start col size : ℕ) → length values ≤ col → size ≡ told (start + length (flat_map f (take col values)))
+    → size ≡ told (start + length (flat_map f values))
+every_value f values start col size past is = is ∙ ap (λ l. told (start + length (flat_map f l))) (take_all col values past)
+
+-- the value that is read from a row that is lent
+pub value_lent : (rows : List (List CellValue)) (row col : ℕ) (lent : List CellValue) (value : CellValue) → row < length rows → slice_get rows row ≡ Some lent → slice_get lent col ≡ Some value
+    → get_or (get_or rows row []) col null ≡ value
+value_lent rows row col lent value within there is =
+    let at : get_or rows row [] ≡ lent = same_Some (get_or rows row []) lent (sym (slice_get-get_or rows row [] within) ∙ there) in
+    ap (λ l. get_or l col null) at ∙ get_or_from_slice_get lent col value null is
+
+-- a cell of a column of some of the rows
+pub cell_of_few : (rows : List (List CellValue)) (first count col i : ℕ) → i < count → first + count ≤ length rows
+    → get_or (map (λ row. get_or row col null) (take count (drop first rows))) i null ≡ get_or (get_or rows (first + i) []) col null
+cell_of_few rows first count col i less within =
+    let few = take count (drop first rows) in
+    let long : i < length few = omega (arith, less, within, length-take count (drop first rows), length-drop first rows) in
+    get_or-map (λ row. get_or row col null) few i [] null long
+    ∙ ap (λ (row : List CellValue). get_or row col null) (get_or-take count (drop first rows) i [] less ∙ get_or-drop first rows i [])
+
+-- and how many they are
+pub few_long : (rows : List (List CellValue)) (first count col : ℕ) → first + count ≤ length rows → length (map (λ row. get_or row col null) (take count (drop first rows))) ≡ count
+few_long rows first count col within =
+    omega (arith, within, length-map (take count (drop first rows)) (λ (row : List CellValue). get_or row col null), length-take count (drop first rows), length-drop first rows)
+
+-- each of them has a value in each column
+pub few_wide : (rows : List (List CellValue)) (first count width col : ℕ) → first + count ≤ length rows → col < width → All (λ (row : List CellValue). length row ≡ width) rows
+    → (row : ℕ) → row < length (take count (drop first rows)) → col < length (get_or (take count (drop first rows)) row [])
+few_wide rows first count width col within less wide row inside =
+    let long : row < count = omega (arith, inside, length-take count (drop first rows)) in
+    let at : get_or (take count (drop first rows)) row [] ≡ get_or rows (first + row) [] = get_or-take count (drop first rows) row [] long ∙ get_or-drop first rows row [] in
+    omega (arith, ap (λ (r : List CellValue). length r) at, wide (first + row) [] (omega (arith, within, long)), less)

@@ -1,0 +1,28 @@
+-- Sizes to which others are added.
+use Rattle.std.specs.Prelude.{◌≡◌, ◌+◌, ◌<◌, ℕ, zero, suc, Bool, true, false, List, [], get_or, length}
+use Rattle.std.specs.List.{flat_map}
+use Rattle.cell_texts.specs.declared.row_sizes.Frame.{Frame}
+use Rattle.cell_types.specs.Value.{CellValue, null}
+use Rattle.reply_values.specs.Csv.{csv_value}
+use Rattle.reply_values.specs.Json.{json_value}
+use Rattle.reply_values.specs.Size.{told}
+
+-- the text of a cell, in JSON or in CSV
+abbrev pub printed_value : Bool → CellValue → List ℕ
+printed_value true = json_value
+printed_value false = csv_value
+
+-- how many bytes the row with a number takes without its values
+abbrev pub frame_at : Frame → ℕ → ℕ
+frame_at frame zero = frame.first
+frame_at frame (suc row) = frame.first + frame.more
+
+-- to each size is added that of the text of its cell
+pub record AreCellsCounted (text : CellValue → List ℕ) (cells : List CellValue) (old new : List ℕ) : Type 0 where
+  pub long : length new ≡ length old
+  pub each : (i : ℕ) → i < length old → get_or new i 0 ≡ told (get_or old i 0 + length (text (get_or cells i null)))
+
+-- these are the sizes of the rows from one on, with their frames
+abbrev pub AreRowsCounted : (CellValue → List ℕ) → List (List CellValue) → ℕ → Frame → List ℕ → Type 0
+AreRowsCounted text rows first frame sizes =
+    (i : ℕ) → i < length sizes → get_or sizes i 0 ≡ told (frame_at frame (first + i) + length (flat_map text (get_or rows (first + i) [])))
