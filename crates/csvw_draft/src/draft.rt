@@ -112,10 +112,8 @@ fn added_draft(
         Err(fault) => return Err(DraftFault::Refused(LoadFault::Meta(fault))),
     };
     let old = schemas.tables.as_slice();
-    match added_text(rt.alloc(), json, old, drafted) {
-        Ok(text) => accepted_text(rt.alloc(), limits, text, files),
-        Err(_) => Err(DraftFault::NoMemory),
-    }
+    let text = added_text(rt.alloc(), json, old, drafted)?;
+    accepted_text(rt.alloc(), limits, text, files)
 }
 
 /// Returns the metadata of a folder, if it is asked for and there is one.

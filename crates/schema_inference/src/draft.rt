@@ -18,9 +18,7 @@ pub fn accepted_text(
     ensures same { IfOk result (λ accepted. accepted.items ≡ text.items) }
     ensures served { IfOk result (λ accepted. IsDraft limits files.items accepted.items) }
 {
-    let Ok(metadata) = Vec::from_slice(alloc, text.as_slice()) else {
-        return Err(DraftFault::NoMemory);
-    };
+    let metadata = Vec::from_slice(alloc, text.as_slice())?;
     match Catalog::load(alloc, limits, metadata, files) {
         Ok(_) => Ok(text),
         Err(LoadFault::NoMemory) => Err(DraftFault::NoMemory),
@@ -44,8 +42,6 @@ pub fn draft_of(
     if schemas.len() > limits.tables as usize {
         return Err(DraftFault::TooManyTables);
     }
-    match write_schemas(alloc, schemas) {
-        Ok(text) => accepted_text(alloc, limits, text, files),
-        Err(_) => Err(DraftFault::NoMemory),
-    }
+    let text = write_schemas(alloc, schemas)?;
+    accepted_text(alloc, limits, text, files)
 }

@@ -1,5 +1,8 @@
 //! Why files have no draft, and what their publisher should look at.
+ghost use Rattle.std.specs.Prelude.{◌≡◌};
+
 use csv_index::TextFault;
+use std::alloc::AllocError;
 use table_store::LoadFault;
 
 /// Why there is no draft.
@@ -13,6 +16,16 @@ pub enum DraftFault {
     Refused(LoadFault),
     /// Memory ran out.
     NoMemory,
+}
+
+impl From<AllocError> for DraftFault {
+    ghost use Rattle.schema_inference.specs.declared.fault.DraftFault.TheVariants.{NoMemory};
+
+    ghost from_gives = { λ _ fault. fault ≡ NoMemory };
+
+    fn from(_: AllocError) -> DraftFault {
+        DraftFault::NoMemory
+    }
 }
 
 /// Why a file has no schema.
