@@ -24,7 +24,7 @@ use Rattle.aggregate_rows.proofs.ListLemmas.{zip_at, zip_long}
 pub row_by_number : (numbers : List ℕ) (rows : List (List CellValue)) (i : ℕ) → i < length numbers → get_or (numbered numbers rows) i [] ≡ get_or rows (get_or numbers i 0) []
 row_by_number numbers rows i h = get_or-map (λ n. get_or rows n []) numbers i 0 [] h
 
--- so many codes as rows
+-- as many codes as rows
 pub codes_of_rows : (numbers : List ℕ) (rows : List (List CellValue)) (made : Codes) → AreFewCodes (length numbers) made → AreFewCodes (length (numbered numbers rows)) made
 codes_of_rows numbers rows made are = subst (λ n. AreFewCodes n made) (sym (length-map numbers (λ n. get_or rows n []))) are
 

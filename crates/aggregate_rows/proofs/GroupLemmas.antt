@@ -1,4 +1,4 @@
--- The groups of rows, where one row more comes behind them.
+-- The groups of rows, where one row more comes after them.
 use Rattle.std.proofs.Common.{◌≡◌, ◌↔◌, ℕ, zero, suc, ◌<◌, Bool, true, false, not, cond, ◌||◌, IsTrue, List, [], ◌∷◌, ◌++◌, length, map, filter, get_or, inl, inr, refl, sym, ap, subst, ◌∙◌, arith}
 use Rattle.std.specs.Prelude.{slice_set}
 use Rattle.std.specs.Cmp.Lexicographic.{pointwise_decides}
@@ -34,7 +34,7 @@ module _ {X : Type 0} (eq : X → X → Bool) (is : (a b : X) → eq a b ≡ tru
   cons_cond x y true zs = refl
   cons_cond x y false zs = refl
 
-  -- an element behind others is seen first where it is none of them
+  -- an element after others is seen first where it is none of them
   pub seen_more : (xs : List X) (y : X) → first_seen eq (xs ++ y ∷ []) ≡ insert_key eq (first_seen eq xs) y
   seen_more [] y = refl
   seen_more (x ∷ xs) y =
@@ -80,7 +80,7 @@ module _ (equal : (a b : CellValue) → IsTrue (value_eq a b) ↔ (a ≡ b)) (pl
   pub no_rows : (rs : List (List CellValue)) (v : List CellValue) → list_any (same_values v) (group_values places rs) ≡ false → rows_of_group places rs v ≡ []
   no_rows rs v none = no_member rs v (unseen same_values same_is same_self (map (values_at places) rs) v none)
 
-  -- one row more, with these values, behind some rows
+  -- one row more, with these values, after some rows
   module _ (some : List (List CellValue)) (row : List CellValue) where
     pub joins : (v : List CellValue) → same_values v (values_at places row) ≡ true → rows_of_group places (some ++ row ∷ []) v ≡ rows_of_group places some v ++ row ∷ []
     joins v e =

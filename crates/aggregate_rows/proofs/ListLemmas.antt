@@ -1,4 +1,4 @@
--- Lists, and how many different elements they have, where one more comes behind them.
+-- Lists, and how many different elements they have, where one more comes after them.
 use Rattle.std.proofs.Common.{◌≡◌, ℕ, zero, suc, ◌+◌, ◌<◌, ◌≤◌, Bool, true, false, cond, ◌||◌, List, [], ◌∷◌, ◌++◌, length, get_or, inl, inr, refl, sym, ap, subst, ◌∙◌, arith}
 use Rattle.std.specs.Prelude.{slice_set}
 use Rattle.std.specs.List.{AllByRecursion, AllZip, list_any}
@@ -88,7 +88,7 @@ module _ {A B : Type 0} (R : A → B → Type 0) where
   zip_at (x ∷ xs) (y ∷ ys) zero d e z h = z.0
   zip_at (x ∷ xs) (y ∷ ys) (suc i) d e z h = zip_at xs ys i d e z.1 (omega arith)
 
--- the first so many by one relation, the others by another
+-- the first elements, of the given count, by one relation, the others by another
 abbrev pub ZipFrom : {A B : Type 0} → (A → B → Type 0) → (A → B → Type 0) → ℕ → List A → List B → Type 0
 ZipFrom R S zero xs ys = AllZip S xs ys
 ZipFrom R S (suc i) [] [] = Unit {0}

@@ -6,7 +6,7 @@ use Rattle.aggregate_rows.specs.declared.codes.Codes.{Codes}
 use Rattle.aggregate_rows.specs.declared.codes.Span.{Span}
 use Rattle.aggregate_rows.specs.declared.codes.TheConstants.{MOST_CODES}
 
--- so many codes, each less than the count
+-- `rows` codes, each less than the count
 pub record AreFewCodes (rows : ℕ) (made : Codes) : Type 0 where
   pub below : (i : ℕ) → i < rows → slice_index_or made.codes.items i 0 < made.count
   pub long : length made.codes.items ≡ rows

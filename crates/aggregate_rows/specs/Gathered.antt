@@ -45,7 +45,7 @@ pub record Gathers (aggregator : Aggregator) (places : Option (List ℕ)) (aggre
   pub aggregates_are : aggregator.aggregates.items ≡ map (λ a. a.aggregate) aggregates
   pub groups_are : HasGroups places aggregator.aggregates.items aggregator.groups rows
 
--- more rows, of so many columns, may join: some did, and the aggregates can be computed of all of them
+-- more rows, of `width` columns, may join: some did, and the aggregates can be computed of all of them
 pub record MayJoin (aggregator : Aggregator) (width : ℕ) (more : List (List CellValue)) : Type 0 where
   pub places : Option (List ℕ)
   pub aggregates : List NamedAggregateOf
@@ -54,7 +54,7 @@ pub record MayJoin (aggregator : Aggregator) (width : ℕ) (more : List (List Ce
   pub within : IfSome places (All (λ place. place < width))
   pub fits : All (λ a. FitsAll width (rows ++ more) a.aggregate) aggregates
 
--- these joined behind those that did
+-- these joined after those that did
 abbrev pub Adjoins : Aggregator → Aggregator → List (List CellValue) → Type 0
 Adjoins old new more = (places : Option (List ℕ)) (aggregates : List NamedAggregateOf) (rows : List (List CellValue)) → Gathers old places aggregates rows
     → Gathers new places aggregates (rows ++ more)

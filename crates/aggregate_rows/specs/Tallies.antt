@@ -31,7 +31,7 @@ IsAccumulator _ _ _ = ⊥
 abbrev pub AreAccumulators : List Aggregate → List (List CellValue) → List Accumulator → Type 0
 AreAccumulators aggregates rows accumulators = AllZip (λ a t. IsAccumulator a rows t) aggregates accumulators
 
--- an aggregate can be computed of rows of so many columns: its column is there, the number of the rows fits 64 bits, and each sum fits 128
+-- an aggregate can be computed of rows of `width` columns: its column is there, the number of the rows fits 64 bits, and each sum fits 128
 abbrev pub FitsAll : ℕ → List (List CellValue) → Aggregate → Type 0
 FitsAll width rows Count = length rows < 2 ^ 64
 FitsAll width rows (SumOfIntegers place) = (place < width) × AreSummable (integers_in place rows) (length rows)
@@ -71,6 +71,6 @@ pub record MayTallyEach (aggregates : List Aggregate) (width : ℕ) (old : List 
 abbrev pub TalliesEach : List Aggregate → List Accumulator → List Accumulator → List (List CellValue) → Type 0
 TalliesEach aggregates old new more = (rows : List (List CellValue)) → AreAccumulators aggregates rows old → AreAccumulators aggregates (rows ++ more) new
 
--- behind the values of a key, what is computed of rows by their accumulators
+-- after the values of a key, what is computed of rows by their accumulators
 abbrev pub IsRowOfAccumulators : List CellValue → List Aggregate → List Accumulator → List CellValue → Type 0
 IsRowOfAccumulators key aggregates accumulators row = (rows : List (List CellValue)) → AreAccumulators aggregates rows accumulators → row ≡ key ++ map (computed_value rows) aggregates

@@ -29,7 +29,7 @@ product_bounds l r = record {
   greatest = int_max (int_max (l.least *ℤ r.least) (l.least *ℤ r.greatest)) (int_max (l.greatest *ℤ r.least) (l.greatest *ℤ r.greatest));
 }
 
--- none are told of quotients and remainders
+-- quotients and remainders have none
 abbrev pub bounds_of : ArithmeticOperator → Bounds → Bounds → Option Bounds
 bounds_of Add l r = Some (sum_bounds l r)
 bounds_of Sub l r = Some (difference_bounds l r)

@@ -1,4 +1,4 @@
--- Conditions in turn, on rows and on rows behind them.
+-- Conditions in turn, on rows and on rows after them.
 use Rattle.std.proofs.Common.{◌≡◌, Option, Some, None, List, [], ◌∷◌, ◌++◌, refl, sym, ap, ◌∙◌}
 use Rattle.std.specs.Prelude.{option_and_then}
 use Rattle.cell_types.specs.Value.{CellValue}
@@ -22,7 +22,7 @@ step_in_parts es None back each = refl
 step_in_parts es (Some xs) None each = sym (joined_none (passing_all es xs))
 step_in_parts es (Some xs) (Some ys) each = each xs ys
 
--- what passes of rows is what passes of a first part, and of what is behind it
+-- what passes of rows is what passes of a first part, and of what is after it
 pub pass_in_parts : TrueRowsPass → (es : List TruthExprOf) (front back : List (List CellValue))
     → passing_all es (front ++ back) ≡ rows_joined (passing_all es front) (passing_all es back)
 pass_in_parts law [] front back = refl

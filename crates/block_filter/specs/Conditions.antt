@@ -16,11 +16,11 @@ abbrev pub ConditionsFit : List TruthExprOf → List CellValue → Type 0
 ConditionsFit [] row = Unit {0}
 ConditionsFit (e ∷ es) row = TruthFits e row × (passing e (row ∷ []) ≡ Some (row ∷ []) → ConditionsFit es row)
 
--- rows, and others behind them; none where either is none
+-- rows, and others after them; none where either is none
 abbrev pub rows_joined : Option (List (List CellValue)) → Option (List (List CellValue)) → Option (List (List CellValue))
 rows_joined front back = both (λ xs ys. xs ++ ys) front back
 
--- Of no rows none pass. What passes of rows and of rows behind them is what passes of the first, and then what passes of the others; where a condition
+-- Of no rows none pass. What passes of rows and of rows after them is what passes of the first, and then what passes of the others; where a condition
 -- divides by zero on either, there is none.
 pub record ConditionsInTurn : Type 0 where
   pub none : (es : List TruthExprOf) → passing_all es [] ≡ Some []

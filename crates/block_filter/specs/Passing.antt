@@ -15,7 +15,7 @@ use Rattle.block_filter.specs.Marks.{marked}
 abbrev pub unless_faulted : Bool → List (List CellValue) → Option (List (List CellValue))
 unless_faulted faulted rows = if faulted then None else Some rows
 
--- Of the rows on which all conditions are true, the first ones, so many where that is limited, and how many there are; and whether one of the
+-- Of the rows on which all conditions are true, the first ones, `most` if that is given, and how many there are; and whether one of the
 -- conditions, in turn, divides by zero on a row.
 pub record ArePassing (es : List TruthExprOf) (most : Option ℕ) (rows : List (List CellValue)) (found : Passed) : Type 0 where
   pub passed : option_map (first_rows most) (passing_all es rows) ≡ unless_faulted found.faulted (numbered found.rows rows)

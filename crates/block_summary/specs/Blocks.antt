@@ -3,7 +3,7 @@ use Rattle.std.specs.Prelude.{ℕ, ◌+◌, ◌*◌, ◌-◌, ◌/◌, List, dro
 use Rattle.cell_types.specs.Value.{CellValue}
 use Rattle.block_summary.specs.declared.block.TheConstants.{BLOCK_ROWS}
 
--- how many blocks so many rows have
+-- how many blocks `rows` rows have
 abbrev pub block_count : ℕ → ℕ
 block_count rows = (rows + (BLOCK_ROWS - 1)) / BLOCK_ROWS
 

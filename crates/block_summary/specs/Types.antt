@@ -1,4 +1,4 @@
--- The cells of a column that are kept as numbers: integers, decimals, truth values and dates.
+-- The cells of a column that are kept as numbers: integers, decimals, booleans and dates.
 use Rattle.std.specs.Prelude.{◌≡◌, ◌⊎◌, ℕ, ℤ, pos, ◌+◌, ◌*◌, ◌/◌, ◌%◌, ◌<◌, ◌+ℤ◌, ◌*ℤ◌, Bool, false, if◌then◌else◌, List, length, map, Option, None, Some, unsigned_abs, slice_index_or}
 use Rattle.std.specs.Int.{int_div_euclid, int_rem_euclid}
 use Rattle.std.specs.Ordering.{int_eq}

@@ -1,4 +1,4 @@
--- Crates above may cite this file: laws of truth values, options, results and orderings alone.
+-- Crates above may cite this file: laws of booleans, options, results and orderings alone.
 use Rattle.std.proofs.Common.{◌≡◌, ◌≤◌, ℕ, List, length, Bool, true, false, cond, is_none, Option, None, Some, Result, Ok, Err, IfOk, OnErr, Ordering, Less, Equal, Greater, refl, ap, sym}
 use Rattle.std.proofs.lemmas.Bool.{false≢true, true≢false}
 use Rattle.std.specs.Ordering.{ordering_then}
@@ -37,7 +37,7 @@ ordering_then_assoc Less b c = refl
 ordering_then_assoc Equal b c = refl
 ordering_then_assoc Greater b c = refl
 
--- ---- truth values
+-- ---- booleans
 pub length-cond : (n : ℕ) (t : Bool) (xs ys : List ℕ) → length xs ≤ n → length ys ≤ n → length (cond t xs ys) ≤ n
 length-cond n true xs ys a b = a
 length-cond n false xs ys a b = b

@@ -32,13 +32,13 @@ decimal_of-only bytes v =
     (λ _ e. cc))
     (λ _ e. cc)
 
--- ---- digits behind others
+-- ---- digits after others
 
 after-le : (n : ℕ) (ds : List ℕ) → n ≤ digits_value_after 10 n ds
 after-le n [] = omega arith
 after-le n (d ∷ ds) = omega (arith, after-le (n * 10 + digit_value d) ds)
 
--- the digits from a place on, behind a number, write what all of them do behind another
+-- the digits from a place on, after a number, write what all of them do after another
 abbrev pub WritesAs : ℕ → List ℕ → ℕ → ℕ → Type 0
 WritesAs start ds i n = AllDigits 10 (drop i ds) × (digits_value_after 10 n (drop i ds) ≡ digits_value_after 10 start ds)
 
@@ -52,7 +52,7 @@ digit_next start ds i n lt h =
     let value : get_or ds i 0 - 48 ≡ digit_value (get_or ds i 0) = omega (arith, digit_value_digit (get_or ds i 0) in_range) in
     (in_range, (all.1, ap (λ d. digits_value_after 10 (n * 10 + d) (drop (i + 1) ds)) value ∙ ap (digits_value_after 10 n) (sym next) ∙ h.1))
 
--- no number of 64 bits is left behind one that is none
+-- no number of 64 bits is left after one that is none
 pub no_room : (start : ℕ) (ds : List ℕ) (i n m : ℕ) → i < length ds → WritesAs start ds i n → m ≤ n * 10 + (get_or ds i 0 - 48) → ¬ (m < 2 ^ 64)
     → ¬ (digits_value_after 10 start ds < 2 ^ 64)
 no_room start ds i n m lt h le out fits =
@@ -77,7 +77,7 @@ pub six_places-take : (fraction : List ℕ) (n : ℕ) → n ≡ min 6 (length fr
 six_places-take fraction n is =
     ap (λ k. six_places (take k fraction)) is ∙ ap six_places (take_min 6 fraction) ∙ take-take-append 6 fraction (codes "000000")
 
--- what the digits before the point and few behind it write, part by part
+-- what the digits before the point and few after it write, part by part
 pub millionths-parts : (whole places : List ℕ) → length places ≤ 6
     → digits_value 10 (whole ++ six_places places) ≡ digits_value_after 10 (digits_value_after 10 (digits_value 10 whole) places) (take (6 - length places) (codes "000000"))
 millionths-parts whole places short =
@@ -120,7 +120,7 @@ both_parts whole fraction h =
     let both = and_parts (all_ascii_digits whole) (all_ascii_digits fraction) (sym (digits-append whole fraction) ∙ all) in
     (digits_model.to whole both.0, digits_model.to fraction both.1)
 
--- digits before a point, and behind it
+-- digits before a point, and after it
 pub are_digits-some : (whole fraction : List ℕ) → (length whole == 0) ≡ false → are_digits (whole ++ fraction) ≡ (list_all is_ascii_digit whole && list_all is_ascii_digit fraction)
 are_digits-some whole fraction some =
     let long : nat_lt 0 (length (whole ++ fraction)) ≡ true = lt-ltb 0 (length (whole ++ fraction)) (simp length-append (omega (arith, eqb-false (length whole) 0 some))) in
@@ -134,7 +134,7 @@ ArePartsOf bytes whole fraction = (whole ≡ whole_part bytes) × (fraction ≡ 
 form_is : (bytes whole fraction : List ℕ) (b : Bool) → ArePartsOf bytes whole fraction → are_digits (whole ++ fraction) ≡ b → is_decimal bytes ≡ b
 form_is bytes whole fraction b parts e = ap₂ (λ w f. are_digits (w ++ f)) (sym parts.0) (sym parts.1) ∙ e
 
--- what stands behind the sixth place, or behind all
+-- what stands after the sixth place, or after all
 drop_places : (n : ℕ) (fraction : List ℕ) → n ≡ min 6 (length fraction) → drop n fraction ≡ drop 6 fraction
 drop_places n fraction is =
     let same : take n fraction ≡ take 6 fraction = ap (λ k. take k fraction) is ∙ take_min 6 fraction in

@@ -75,7 +75,7 @@ six-digits n small =
 value_of : (d : ℕ) → d < 10 → digit_value (48 + d) ≡ d
 value_of d small = omega (arith, digit_value_digit (48 + d) (omega arith, omega arith))
 
--- what they write behind another number
+-- what they write after another number
 after-six : (q n : ℕ) → n < 1_000_000 → digits_value_after 10 q (six_digits n) ≡ q * 1_000_000 + n
 after-six q n small =
     let a = value_of (n / 10_000 / 10) (omega arith) in
@@ -91,7 +91,7 @@ after-six q n small =
 not_point : (d : ℕ) → is_ascii_digit d ≡ true → is_point d ≡ false
 not_point d digit = grind (arith, nat_tests)
 
--- digits stand before the first point, which has the rest behind it
+-- digits stand before the first point, which has the rest after it
 point_place : (ds rest : List ℕ) → all_ascii_digits ds ≡ true → position_or_len is_point (ds ++ 46 ∷ rest) ≡ length ds
 point_place [] rest all = refl
 point_place (d ∷ ds) rest all =
@@ -169,7 +169,7 @@ both-value n fraction small six =
     let sum : n / 1_000_000 * 1_000_000 + n % 1_000_000 ≡ n = omega arith in
     ap₂ (digits_value_after 10) value six ∙ after-six (n / 1_000_000) (n % 1_000_000) (omega arith) ∙ sum
 
--- behind a minus or not, where the text has a fraction and where it has none
+-- after a minus or not, where the text has a fraction and where it has none
 read_with : (bytes rest : List ℕ) (minus : Bool) (n : ℕ) → n < 2 ^ 64 → FitsSigned w64 (signed minus n) → starts_with_minus bytes ≡ minus → without_leading_sign bytes ≡ rest
     → rest ≡ millionths_text n → decimal_of bytes ≡ Ok (decimal (signed minus n))
 read_with bytes rest minus n small fits sign unsigned is = by (n % 1_000_000 == 0) refl is

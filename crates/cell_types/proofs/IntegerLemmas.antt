@@ -45,7 +45,7 @@ pub integer-not : (bytes : List ℕ) → is_integer bytes ≡ false → integer_
 unfolding integer_of
 integer-not bytes form = rw form refl
 
--- digits behind the sign
+-- digits after the sign
 pub list_all-is_integer : (bytes ds : List ℕ) → ds ≡ without_leading_sign bytes → (length ds == 0) ≡ false → list_all is_ascii_digit ds ≡ is_integer bytes
 list_all-is_integer bytes ds is some =
     let long : nat_lt 0 (length ds) ≡ true = lt-ltb 0 (length ds) (omega (arith, eqb-false (length ds) 0 some)) in

@@ -12,7 +12,7 @@ abbrev pub is_spaced : Bool → List ℕ → Bool
 is_spaced after [] = not after
 is_spaced after (b ∷ bs) = cond (is_white b) (not after && (b == 32) && is_spaced true bs) (is_spaced false bs)
 
--- the pieces behind the first
+-- the pieces after the first
 abbrev others : List (List ℕ) → List (List ℕ)
 others [] = []
 others (w ∷ ws) = ws
@@ -133,7 +133,7 @@ pub spaced-stop : (after : Bool) (bytes : List ℕ) (i : ℕ) → i < length byt
 spaced-stop after bytes i inside white (inl e) = rw (drop-cons bytes i 0 inside, white, e) refl
 spaced-stop after bytes i inside white (inr e) = rw (drop-cons bytes i 0 inside, white, e) (and_left (not after && false) (is_spaced true (drop (suc i) bytes)) (and_right (not after) false refl))
 
--- what stands at the front of such a text, behind white space
+-- what stands at the front of such a text, after white space
 spaced-head : (bytes : List ℕ) → is_spaced true bytes ≡ true → (0 < length bytes) × (is_white (get_or bytes 0 0) ≡ false)
 spaced-head [] e = absurd (false≢true e)
 spaced-head (b ∷ bs) e =

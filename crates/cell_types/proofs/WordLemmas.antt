@@ -15,7 +15,7 @@ use Rattle.cell_types.specs.WhiteSpace.{is_white, is_word, words, normal_text}
 pub white-ascii : (b : ℕ) → is_white b ≡ true → b < 128
 white-ascii b e = grind (arith, nat_tests)
 
--- a text may be cut behind the white space at its front
+-- a text may be cut after the white space at its front
 pub boundary-white : (bytes : List ℕ) → IsUtf8 bytes → (n : ℕ) → n ≡ prefix_len is_white bytes → IsCharBoundary bytes n
 boundary-white bytes text zero e = IsCharBoundary-start bytes text
 boundary-white bytes text (suc k) e =
@@ -49,7 +49,7 @@ is_word-some : (word : List ℕ) → 0 < length word → is_word word ≡ true
 is_word-some [] some = absurd (omega arith)
 is_word-some (b ∷ bs) some = refl
 
--- a word with white space behind it
+-- a word with white space after it
 words-split : (bytes : List ℕ) → position_or_len is_white bytes < length bytes → 0 < position_or_len is_white bytes
     → words bytes ≡ take (position_or_len is_white bytes) bytes ∷ words (drop (position_or_len is_white bytes) bytes)
 unfolding words
@@ -60,7 +60,7 @@ words-split bytes inside some =
     rw (drop-cons bytes m 0 inside, add-one) (words-white (get_or bytes m 0) (drop (suc m) bytes) (passes_at_first is_white bytes 0 inside)) in
     rw (slice_split_first is_white bytes 0 inside, word, rest) refl
 
--- a word with nothing behind it
+-- a word with nothing after it
 words-whole : (bytes : List ℕ) → 0 < length bytes → All (λ b. is_white b ≡ false) bytes → length bytes ≤ position_or_len is_white bytes
     → words bytes ≡ take (position_or_len is_white bytes) bytes ∷ words (drop (position_or_len is_white bytes) bytes)
 unfolding words

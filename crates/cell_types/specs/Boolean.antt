@@ -12,7 +12,7 @@ boolean_of of_true of_false bytes =
     if list_any (λ other. bytes_eq other bytes) of_true then Ok (boolean true)
     else (if list_any (λ other. bytes_eq other bytes) of_false then Ok (boolean false) else Err NotBoolean)
 
--- the value that a truth value is, and the fault that none is
+-- the value that a boolean is, and the fault that none is
 abbrev pub truth_reading : Option Bool → Result CellValue CellFault
 truth_reading (Some truth) = Ok (boolean truth)
 truth_reading None = Err NotBoolean

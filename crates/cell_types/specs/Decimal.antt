@@ -16,7 +16,7 @@ is_point byte = byte == 46
 abbrev pub is_zero : ℕ → Bool
 is_zero byte = byte == 48
 
--- what stands between the sign and the first point, and what stands behind that
+-- what stands between the sign and the first point, and what stands after that
 abbrev pub whole_part : List ℕ → List ℕ
 whole_part bytes = before_first is_point (without_leading_sign bytes)
 
@@ -27,11 +27,11 @@ fraction_part bytes = after_first is_point (without_leading_sign bytes)
 abbrev pub are_digits : List ℕ → Bool
 are_digits bytes = nat_lt 0 (length bytes) && all_ascii_digits bytes
 
--- an optional sign and one or more digits, with at most one point before, among or behind them
+-- an optional sign and one or more digits, with at most one point before, among or after them
 abbrev pub is_decimal : List ℕ → Bool
 is_decimal bytes = are_digits (whole_part bytes ++ fraction_part bytes)
 
--- behind the sixth decimal place each digit is 0
+-- after the sixth decimal place each digit is 0
 abbrev pub is_in_millionths : List ℕ → Bool
 is_in_millionths bytes = list_all is_zero (drop 6 (fraction_part bytes))
 
@@ -39,7 +39,7 @@ is_in_millionths bytes = list_all is_zero (drop 6 (fraction_part bytes))
 abbrev pub six_places : List ℕ → List ℕ
 six_places fraction = take 6 (fraction ++ codes "000000")
 
--- a number behind a minus or behind none
+-- a number after a minus or after none
 abbrev pub signed : Bool → ℕ → ℤ
 signed is_negative number = if is_negative then neg_ℤ (pos number) else pos number
 
@@ -74,7 +74,7 @@ six_digits number = two_digits (number / 10_000) ++ four_digits (number % 10_000
 abbrev pub fraction_text : ℕ → List ℕ
 fraction_text number = if number == 0 then [] else codes "." ++ without_last_zeros (six_digits number)
 
--- the text of so many millionths: the whole part, and the fraction
+-- the text of a number of millionths: the whole part, and the fraction
 abbrev pub millionths_text : ℕ → List ℕ
 millionths_text number = whole_text (number / 1_000_000) ++ fraction_text (number % 1_000_000)
 

@@ -21,7 +21,7 @@ use Rattle.cell_types.specs.Integer.{integer_of}
 use Rattle.cell_types.specs.Value.{CellValue, boolean, date, decimal, integer, null, text, value_cmp, value_eq}
 use Rattle.cell_types.specs.WhiteSpace.{is_white, normal_text, words}
 
--- a text in a column has a value or one of seven causes: want of memory is none of them
+-- a text in a column has a value or one of seven causes: out of memory is none of them
 abbrev pub MemoryIsNoCause : Type 0
 MemoryIsNoCause = (column : ColumnOf) (bytes : List ℕ) → value_of column bytes ≢ Err NoMemory
 
@@ -65,7 +65,7 @@ pub record ValuesAreOrdered : Type 0 where
 abbrev pub TextsAreInOrder : Type 0
 TextsAreInOrder = (s t : List ℕ) → IsUtf8 s → IsUtf8 t → value_cmp (text s) (text t) ≡ slice_cmp nat_cmp (chars s) (chars t)
 
--- a value of a datatype: an integer of 64 signed bits, a text, a truth value, a day of the calendar in the years 1 to 9999, millionths of
+-- a value of a datatype: an integer of 64 signed bits, a text, a boolean, a day of the calendar in the years 1 to 9999, millionths of
 -- 64 signed bits
 abbrev pub IsOfDatatype : DatatypeOf → CellValue → Type 0
 IsOfDatatype datatype.integer (integer z) = FitsSigned w64 z

@@ -9,7 +9,7 @@ use Rattle.cli_args.specs.declared.fault.ArgsFault.TheVariants.{Shows, Usage, No
 use Rattle.cli_args.specs.Fault.{IsFaultBy, IsQuestion, IsRefusal}
 use Rattle.cli_args.specs.Words.{HasFlag}
 
--- a kind other than want of memory is one of the kinds
+-- a kind other than out of memory is one of the kinds
 among : (k : ErrorKind) (ks : Kinds) → (k ≡ OutOfMemory → ⊥) → (k ≡ OutOfMemory) ⊎ IsAmong k ks → IsAmong k ks
 among k ks other (inl h) = absurd (other h)
 among k ks other (inr h) = h

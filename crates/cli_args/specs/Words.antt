@@ -17,13 +17,13 @@ port_rule = record (required_rule (codes "port")) { long = Some (codes "port"); 
 abbrev pub texts : List (Bor Text) → List Text
 texts = map (λ word. word.now)
 
--- the text is there, is a numeral of decimal digits with or without a `+` before it, of a number of so many bits, and n is that number
+-- the text is there, is a numeral of decimal digits with or without a `+` before it, of a number of `bits` bits, and n is that number
 abbrev pub IsNumberOfBits : ℕ → Option Text → ℕ → Type 0
 IsNumberOfBits bits None n = ⊥
 IsNumberOfBits bits (Some t) n =
     (IsNumeral 10 (without_leading_plus t) × (digits_value 10 (without_leading_plus t) < 2 ^ bits)) × (n ≡ digits_value 10 (without_leading_plus t))
 
--- the number of so many bits that the text is, or none where it is no such number
+-- the number of `bits` bits that the text is, or none if it is no such number
 abbrev pub ReadsNumberOfBits : ℕ → Option Text → Option ℕ → Type 0
 ReadsNumberOfBits bits t (Some n) = IsNumberOfBits bits t n
 ReadsNumberOfBits bits t None = (n : ℕ) → IsNumberOfBits bits t n → ⊥

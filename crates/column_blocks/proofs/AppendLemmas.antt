@@ -6,7 +6,7 @@ use Rattle.block_summary.specs.declared.number.PackedType.{PackedType}
 use Rattle.cell_types.specs.Value.{CellValue}
 use Rattle.column_blocks.specs.TypedColumn.{ColumnCells, cells_in, cells_of_each, AreBlocks, AreFull, AreOfType}
 
--- a last block that has as many cells as so many blocks is full
+-- a last block that has as many cells as `count` blocks is full
 last_full : (size count : ℕ) (last : List CellValue) → 0 < length last → length last ≤ size → length last ≡ count * size → length last ≡ size
 last_full size zero last some most e = absurd (omega (arith, some, e))
 last_full size (suc zero) last some most e = let one : 1 * size ≡ size = omega arith in omega (arith, e, one)
@@ -14,7 +14,7 @@ last_full size (suc (suc count)) last some most e =
     let more : suc (suc count) * size ≡ size + size + count * size = omega arith in
     absurd (omega (arith, some, most, e, more))
 
--- blocks whose cells fill so many are full
+-- blocks whose cells fill `count` blocks are full
 pub full : (size count : ℕ) (blocks : List (List CellValue)) → AreBlocks size blocks → 0 < size → length (cells_in blocks) ≡ count * size → AreFull size blocks
 full size count [] are some e = tt
 full size count (last ∷ []) are some e =

@@ -44,7 +44,7 @@ full_blocks size [] some full = tt
 full_blocks size (last ∷ []) some full = (omega (arith, full.0), omega (arith, full.0))
 full_blocks size (block ∷ next ∷ blocks) some full = (full.0, full_blocks size (next ∷ blocks) some full.1)
 
--- and with a last one behind them
+-- and with a last one after them
 pub last_block : (size : ℕ) (blocks : List (List CellValue)) (last : List CellValue) → AreFull size blocks → 0 < length last → length last ≤ size
     → AreBlocks size (blocks ++ last ∷ [])
 last_block size [] last full some most = (some, most)

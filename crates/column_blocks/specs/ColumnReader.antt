@@ -23,7 +23,7 @@ reader_view (Texts reader) = record { packed_type = None; rows = reader.rows; ce
 abbrev pub with_cells : ReaderOf → List CellValue → ReaderOf
 with_cells reader cells = record reader { cells = reader.cells ++ cells }
 
--- a reader of a column of so many rows, with some of its cells
+-- a reader of a column of `rows` rows, with some of its cells
 abbrev pub reader_at : ℕ → ColumnOf → List CellValue → ReaderOf
 reader_at rows column cells = record { packed_type = packed_type_of column.datatype; rows = rows; cells = cells }
 
@@ -31,7 +31,7 @@ reader_at rows column cells = record { packed_type = packed_type_of column.datat
 abbrev pub cells_read : ReaderOf → ColumnCells
 cells_read reader = record { packed_type = reader.packed_type; cells = reader.cells }
 
--- the readers of the columns of so many rows have read some of them
+-- the readers of the columns of `total` rows have read some of them
 pub record HaveRead (total : ℕ) (columns : List ColumnOf) (rows : List (List CellValue)) (readers : List ReaderOf) : Type 0 where
   pub count : length readers ≡ length columns
   pub each : (col : ℕ) (column : ColumnOf) → slice_get columns col ≡ Some column → slice_get readers col ≡ Some (reader_at total column (column_of rows col))

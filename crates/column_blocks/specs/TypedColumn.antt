@@ -13,7 +13,7 @@ use Rattle.cell_types.specs.Value.{CellValue}
 abbrev pub cells_in : List (List CellValue) → List CellValue
 cells_in blocks = flat_map (λ cells. cells) blocks
 
--- each block has so many cells
+-- each block has `size` cells
 abbrev pub AreFull : ℕ → List (List CellValue) → Type 0
 AreFull size blocks = AllByRecursion (λ cells. length cells ≡ size) blocks
 
@@ -23,7 +23,7 @@ AreBlocks size [] = Unit {0}
 AreBlocks size (last ∷ []) = (0 < length last) × (length last ≤ size)
 AreBlocks size (block ∷ next ∷ blocks) = (length block ≡ size) × AreBlocks size (next ∷ blocks)
 
--- so many cells fill their blocks
+-- `size` cells fill their blocks
 abbrev pub AreWholeBlocks : ℕ → Type 0
 AreWholeBlocks size = (count : ℕ) × (size ≡ count * BLOCK_ROWS)
 

@@ -63,7 +63,7 @@ halved-around bytes front behind around =
     let parts : front ++ drop around.0 bytes ≡ bytes = rw around.3 (take-append-drop around.0 bytes) in
     halved-pieces bytes front behind (sym parts ∙ ap (λ xs. front ++ xs) rest) (λ i h. around.2.0 i (omega (arith, around.6)))
 
--- one turn of the loop: the front is written behind what was, and the pair as one
+-- one turn of the loop: the front is written after what was, and the pair as one
 pub halved-turn : (text before written rest front behind : List ℕ) → halved text ≡ before ++ halved rest → SplitsAroundMatch (FindsText pair) rest front behind
     → written ≡ (before ++ front) ++ 34 ∷ [] → halved text ≡ written ++ halved behind
 halved-turn text before written rest front behind so_far around grown =

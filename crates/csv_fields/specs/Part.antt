@@ -11,11 +11,11 @@ pub record PartOf : Type 0 where
   pub width : ℕ
   pub rows : List (List RawField)
 
--- the fields after the first of the places, each of which ends at the next; so many
+-- the first `count` fields after the first of the places, each of which ends at the next
 abbrev pub fields_between : List ℕ → List ℕ → ℕ → List RawField
 fields_between bytes places count = map raw_between (cut (slice_index places 0 + 1) (take count (drop 1 places)) bytes)
 
--- so many rows of them
+-- the first `rows` rows of them
 abbrev pub part_between : List ℕ → ℕ → ℕ → List ℕ → PartOf
 part_between bytes width rows places = record { width = width; rows = rows_cut rows width (fields_between bytes places (rows * width)) }
 
@@ -30,7 +30,7 @@ pub record StandsBetween (bytes : List ℕ) (place next : ℕ) : Type 0 where
   pub end : IsCharBoundary bytes next
   pub utf8 : is_utf8 (raw_between (slice_range bytes (place + 1) next)).bytes ≡ true
 
--- so do so many, each between a place and the next
+-- so do `count` fields, each between a place and the next
 pub record StandBetween (bytes places : List ℕ) (count : ℕ) : Type 0 where
   pub within : count < length places
   pub each : (n : ℕ) → n < count → StandsBetween bytes (slice_index places n) (slice_index places (n + 1))

@@ -37,7 +37,7 @@ comma_alone = whole (44 ∷ []) _ _ refl refl
 pub in_quotes : AreRecords (34 ∷ 97 ∷ 34 ∷ 34 ∷ 44 ∷ 10 ∷ 34 ∷ []) ((quoted (97 ∷ 34 ∷ 44 ∷ 10 ∷ []) ∷ []) ∷ [])
 in_quotes = whole (34 ∷ 97 ∷ 34 ∷ 34 ∷ 44 ∷ 10 ∷ 34 ∷ []) _ _ refl refl
 
--- a CR ": a CR with no LF behind it
+-- a CR ": a CR with no LF after it
 pub cr_quote : HasFault (97 ∷ 13 ∷ 34 ∷ []) 2 bare_cr
 cr_quote = stuck (97 ∷ 13 ∷ 34 ∷ []) 2 _ (omega arith) refl refl
 
@@ -45,7 +45,7 @@ cr_quote = stuck (97 ∷ 13 ∷ 34 ∷ []) 2 _ (omega arith) refl refl
 pub quote_inside : HasFault (97 ∷ 34 ∷ 98 ∷ []) 1 stray_quote
 quote_inside = stuck (97 ∷ 34 ∷ 98 ∷ []) 1 _ (omega arith) refl refl
 
--- "a"b: a byte behind a closing double quote
+-- "a"b: a byte after a closing double quote
 pub byte_after : HasFault (34 ∷ 97 ∷ 34 ∷ 98 ∷ []) 3 after_quote
 byte_after = stuck (34 ∷ 97 ∷ 34 ∷ 98 ∷ []) 3 _ (omega arith) refl refl
 
@@ -53,7 +53,7 @@ byte_after = stuck (34 ∷ 97 ∷ 34 ∷ 98 ∷ []) 3 _ (omega arith) refl refl
 pub open_quote : HasFault (34 ∷ 97 ∷ []) 2 unfinished
 open_quote = open_end (34 ∷ 97 ∷ []) _ refl refl
 
--- a CR: the text ends behind a CR
+-- a CR: the text ends after a CR
 pub cr_last : HasFault (97 ∷ 13 ∷ []) 2 unfinished
 cr_last = open_end (97 ∷ 13 ∷ []) _ refl refl
 

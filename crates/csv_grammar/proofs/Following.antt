@@ -1,4 +1,4 @@
--- The parity of a text's double quotes and the kind of its last byte tell where the machine stands behind it.
+-- The parity of a text's double quotes and the kind of its last byte tell where the machine stands after it.
 use Rattle.std.proofs.Common.{◌≡◌, ℕ, ◌+◌, ◌-◌, ◌%◌, true, List, [], ◌∷◌, ◌++◌, length, if◌then◌else◌, ◌==◌, Option, Some, None, refl, sym, ap, ap₂, ◌∙◌, subst, append_assoc, append-nil, arith}
 use Rattle.std.specs.Prelude.{IfSome, IsTrue, is_some, slice_get, slice_index, count_by, ◌↔◌}
 use Rattle.std.proofs.Math.Seq.{take-append_seam, get_or-append_seam}
@@ -18,7 +18,7 @@ use Rattle.csv_grammar.proofs.Structure.{role_in, step-roles, roles_read, read_a
 
 -- ---- the carry of one byte more
 
--- the carry behind one byte more
+-- the carry after one byte more
 abbrev pushed : TextCarry → ℕ → TextCarry
 pushed carry b = record { parity = (carry.parity + (if b == double_quote then 1 else 0)) % 2; last = byte_kind b }
 
@@ -39,7 +39,7 @@ carry_of-push text b = ap₂ carry_at parity (ap kind_of_last last)
 
 -- ---- where the machine stands
 
--- the machine stands so behind a text of that carry
+-- the machine stands so after a text of that carry
 abbrev pub Stands : Mode → TextCarry → Type 0
 Stands start carry = (carry.parity ≡ 0) × (carry.last ≡ field_start)
 Stands (plain bytes last) carry = (carry.parity ≡ 0) × (carry.last ≡ a_plain)
@@ -75,7 +75,7 @@ step_stands ls fs (returned f) carry b a_return s = tt
 step_stands ls fs (returned f) carry b a_feed s = (rw s.0 refl, refl)
 step_stands ls fs (returned f) carry b (an_other _ q c x n) s = rw n tt
 
--- behind a text that was read from the start
+-- after a text that was read from the start
 run_stands : (text bytes : List ℕ) (p q : Progress) → Stands p.mode (carry_of text) → run p bytes ≡ Some q → Stands q.mode (carry_of (text ++ bytes))
 run_stands text [] p q s e = subst (λ w. Stands q.mode (carry_of w)) (sym (append-nil text)) (subst (λ r. Stands r.mode (carry_of text)) (same_Some p q e) s)
 run_stands text (b ∷ bytes) p q s e = option_and_then_some (λ r. run r bytes) (step p b) q e (λ r one rest.

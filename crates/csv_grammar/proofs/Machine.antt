@@ -7,13 +7,13 @@ use Rattle.csv_grammar.specs.Records.{Field, unquoted, quoted, LineBreak, crlf, 
 pub data Mode : Type 0 where
   -- at the start of a field
   start : Mode
-  -- in an unquoted field, behind these bytes and one more
+  -- in an unquoted field, after these bytes and one more
   plain : List ℕ → ℕ → Mode
-  -- inside double quotes, behind this content
+  -- inside double quotes, after this content
   inside : List ℕ → Mode
-  -- behind this content and a double quote: the end of the field, or the first of two
+  -- after this content and a double quote: the end of the field, or the first of two
   closed : List ℕ → Mode
-  -- behind a field that ends its record, and a CR
+  -- after a field that ends its record, and a CR
   returned : Field → Mode
 
 -- the lines and the fields of the record under way that were read, and where the machine stands
@@ -29,11 +29,11 @@ initial = record { lines = []; fields = []; mode = start }
 abbrev pub moved : Progress → Mode → Progress
 moved p mode = record p { mode = mode }
 
--- behind the comma after a field
+-- after the comma after a field
 abbrev pub next_field : Progress → Field → Progress
 next_field p field = record p { fields = p.fields ++ field ∷ []; mode = start }
 
--- behind the line break after a record's last field
+-- after the line break after a record's last field
 abbrev pub next_line : Progress → Field → LineBreak → Progress
 next_line p field end = record {
   lines = p.lines ++ record { fields = p.fields ++ field ∷ []; end = end } ∷ [];

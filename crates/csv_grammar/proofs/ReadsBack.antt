@@ -9,7 +9,7 @@ use Rattle.csv_grammar.proofs.ByteKinds.{Kind, a_quote, a_comma, a_return, a_fee
 use Rattle.csv_grammar.proofs.Machine.{Mode, start, plain, inside, closed, Progress, initial, step, run, finish}
 use Rattle.csv_grammar.proofs.Runs.{progress_at, run_on}
 
--- the mode stands behind this field
+-- the mode stands after this field
 pub data Stands : Mode → Field → Type 0 where
   at_start : Stands start (unquoted [])
   in_plain : (bytes : List ℕ) (last : ℕ) → Stands (plain bytes last) (unquoted (bytes ++ last ∷ []))
@@ -56,7 +56,7 @@ inside_run ls fs front (b ∷ bytes) rest = on (cases_eq b double_quote) (inside
     on (inl same) ih = rw same ((rw same at ih) ∙ ap (λ w. run (progress_at ls fs (inside w)) rest) (append_assoc front (double_quote ∷ []) bytes))
     on (inr other) ih = let n = ne_eqb b double_quote other in rw n (rw n (ih ∙ ap (λ w. run (progress_at ls fs (inside w)) rest) (append_assoc front (b ∷ []) bytes)))
 
--- the bytes of a field lead to a mode that stands behind it
+-- the bytes of a field lead to a mode that stands after it
 field_run : (lines : List Line) (fields : List Field) (f : Field) → IsField f
     → (m : Mode) × (run (progress_at lines fields start) (print_field f) ≡ Some (progress_at lines fields m)) × Stands m f
 field_run ls fs (unquoted []) valid = (start, refl, at_start)
@@ -68,7 +68,7 @@ field_run ls fs (quoted content) valid = (closed content, inside_run ls fs [] co
 
 -- ---- a record
 
--- the progress stands behind a record of these fields, and before what ends it
+-- the progress stands after a record of these fields, and before what ends it
 pub record IsBehind (lines : List Line) (fields : List Field) (q : Progress) : Type 0 where
   pub before : List Field
   pub last : Field
@@ -77,14 +77,14 @@ pub record IsBehind (lines : List Line) (fields : List Field) (q : Progress) : T
   pub stands : Stands mode last
   pub whole : fields ≡ before ++ last ∷ []
 
--- a comma behind a field
+-- a comma after a field
 comma_step : (lines : List Line) (fields : List Field) (m : Mode) (f : Field) → Stands m f
     → step (progress_at lines fields m) comma ≡ Some (progress_at lines (fields ++ f ∷ []) start)
 comma_step ls fs m f at_start = refl
 comma_step ls fs m f (in_plain bytes last) = refl
 comma_step ls fs m f (at_quote content) = refl
 
--- the bytes of a record, also behind fields of it that were read
+-- the bytes of a record, also after fields of it that were read
 record_run : (lines : List Line) (before fields : List Field) → IsRecord fields
     → (q : Progress) × (run (progress_at lines before start) (print_record fields) ≡ Some q) × IsBehind lines (before ++ fields) q
 record_run ls fs [] valid = absurd (omega (arith, valid.0))
@@ -102,7 +102,7 @@ record_run ls fs (f ∷ g ∷ gs) valid =
 
 -- ---- the end of a record
 
--- a line break behind a record
+-- a line break after a record
 break_run : (lines : List Line) (fields : List Field) (q : Progress) (end : LineBreak) → IsBehind lines fields q
     → run q (print_break end) ≡ Some (progress_at (lines ++ record { fields = fields; end = end } ∷ []) [] start)
 break_run ls fs q end behind = rw (behind.is, behind.whole) (on behind.before behind.last behind.mode end behind.stands)
@@ -116,7 +116,7 @@ break_run ls fs q end behind = rw (behind.is, behind.whole) (on behind.before be
     on before last mode lf (in_plain bytes b) = refl
     on before last mode lf (at_quote content) = refl
 
--- the end of the text behind a record that has bytes
+-- the end of the text after a record that has bytes
 last_run : (lines : List Line) (fields : List Field) (q : Progress) → IsBehind lines fields q → 0 < length (print_record fields)
     → finish q ≡ Some (record { lines = lines; last = Some fields })
 last_run ls fs q behind long =
@@ -131,7 +131,7 @@ last_run ls fs q behind long =
 
 -- ---- a text
 
--- lines behind lines
+-- lines after lines
 lines_run : (before lines : List Line) → AllByRecursion (λ line. IsRecord line.fields) lines
     → run (progress_at before [] start) (flat_map print_line lines) ≡ Some (progress_at (before ++ lines) [] start)
 lines_run before [] valid = rw (append-nil before) refl

@@ -57,7 +57,7 @@ run_front p q xs ys e = on (run p xs) refl
 
 -- ---- what a run has read
 
--- the bytes of a field and the comma behind it
+-- the bytes of a field and the comma after it
 abbrev pub print_field_comma : Field → List ℕ
 print_field_comma field = print_field field ++ comma ∷ []
 
@@ -65,7 +65,7 @@ print_field_comma field = print_field field ++ comma ∷ []
 abbrev pub printed_fields : List Field → List ℕ
 printed_fields fields = flat_map print_field_comma fields
 
--- the bytes read behind those
+-- the bytes read after those
 abbrev pub printed_mode : Mode → List ℕ
 printed_mode start = []
 printed_mode (plain bytes last) = bytes ++ last ∷ []
@@ -145,7 +145,7 @@ to_mode lines fields m n b reached valid e = (
     regroup : (l f w : List ℕ) → l ++ (f ++ (w ++ b ∷ [])) ≡ (l ++ (f ++ w)) ++ b ∷ []
     regroup l f w = simp append_assoc
 
--- behind a field: a comma, CR or LF
+-- after a field: a comma, CR or LF
 module _ (lines : List Line) (fields : List Field) (m : Mode) (f : Field) where
   -- the comma
   at_comma : IsReached (progress_at lines fields m) → IsField f → printed_mode m ≡ print_field f

@@ -16,7 +16,7 @@ use Rattle.csv_grammar.proofs.Viable.{completion, completes}
 
 -- ---- what a run has read
 
--- the roles of a field and the comma behind it
+-- the roles of a field and the comma after it
 abbrev field_comma_roles : Field → List Role
 field_comma_roles field = field_roles field ++ separator ∷ []
 
@@ -70,7 +70,7 @@ to_mode lines fields m n b e =
     regroup : (l f w : List Role) → l ++ (f ++ (w ++ inner ∷ [])) ≡ (l ++ (f ++ w)) ++ inner ∷ []
     regroup l f w = simp append_assoc
 
--- the comma behind a field
+-- the comma after a field
 at_comma : (lines : List Line) (fields : List Field) (m : Mode) (f : Field) → printed_mode m ≡ print_field f
     → Adds (progress_at lines fields m) separator (next_field (progress_at lines fields m) f)
 at_comma lines fields m f e =
@@ -79,7 +79,7 @@ at_comma lines fields m f e =
     regroup : (l g w : List Role) → l ++ ((g ++ (w ++ separator ∷ [])) ++ []) ≡ (l ++ (g ++ w)) ++ separator ∷ []
     regroup l g w = simp (append_assoc, append-nil)
 
--- the LF that ends a record, behind its last field and perhaps a CR
+-- the LF that ends a record, after its last field and perhaps a CR
 at_break : (lines : List Line) (fields : List Field) (m : Mode) (f : Field) (end : LineBreak) (cr : List ℕ)
     → break_roles end ≡ inner_roles cr ++ record_end ∷ [] → printed_mode m ≡ print_field f ++ cr
     → Adds (progress_at lines fields m) record_end (next_line (progress_at lines fields m) f end)

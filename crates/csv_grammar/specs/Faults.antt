@@ -5,13 +5,13 @@ use Rattle.csv_grammar.specs.Records.{Field, AreRecords}
 
 -- why a text is not in the grammar
 pub data Cause : Type 0 where
-  -- a CR outside quotes with no LF behind it
+  -- a CR outside quotes with no LF after it
   bare_cr : Cause
   -- a double quote inside an unquoted field
   stray_quote : Cause
-  -- a byte behind a closing double quote
+  -- a byte after a closing double quote
   after_quote : Cause
-  -- the text ends inside quotes, or behind a CR
+  -- the text ends inside quotes, or after a CR
   unfinished : Cause
 
 -- some continuation of the prefix is in the grammar

@@ -1,4 +1,4 @@
--- A file is a text of records of one width, the first of them the header (RFC 4180, section 2, rules 3 and 4), behind a byte
+-- A file is a text of records of one width, the first of them the header (RFC 4180, section 2, rules 3 and 4), after a byte
 -- order mark that counts for nothing. Places count from the file's first byte, the mark included.
 use Rattle.std.specs.Prelude.{◌≡◌, ◌≢◌, ℕ, ◌+◌, ◌<◌, List, [], ◌∷◌, length, drop, if◌then◌else◌, IsUtf8, slice_get, Some, option_map}
 use Rattle.std.specs.List.{starts_with, AllByRecursion}
@@ -16,7 +16,7 @@ mark_len bytes = if starts_with nat_eq bytes byte_order_mark then length byte_or
 abbrev pub text_of : List ℕ → List ℕ
 text_of bytes = drop (mark_len bytes) bytes
 
--- so many fields
+-- `width` fields
 abbrev pub HasWidth : ℕ → List Field → Type 0
 HasWidth width fields = length fields ≡ width
 

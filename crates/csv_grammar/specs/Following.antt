@@ -1,4 +1,4 @@
--- What may follow a text that some continuation brings into the grammar (RFC 4180, section 2). It hangs on two things: the
+-- What may follow a text that some continuation brings into the grammar (RFC 4180, section 2). It depends on two things: the
 -- parity of the text's double quotes, and the kind of its last byte.
 use Rattle.std.specs.Prelude.{ℕ, ◌-◌, ◌%◌, Bool, true, ◌||◌, not, List, length, if◌then◌else◌, ◌==◌, slice_get, count_by, Option, None, Some}
 use Rattle.csv_grammar.specs.Bytes.{double_quote, comma, carriage_return, line_feed}
@@ -34,8 +34,8 @@ carry_of text = record {
   last = kind_of_last (slice_get text (length text - 1));
 }
 
--- which bytes may follow outside double quotes: behind a CR an LF alone; behind a closing double quote its second, or what ends
--- a field; behind a plain byte no double quote
+-- which bytes may follow outside double quotes: after a CR an LF alone; after a closing double quote its second, or what ends
+-- a field; after a plain byte no double quote
 abbrev pub may_follow_outside : LastByte → ℕ → Bool
 may_follow_outside field_start b = true
 may_follow_outside a_double_quote b = not (is_plain b)
@@ -51,7 +51,7 @@ abbrev pub following_role : TextCarry → ℕ → Role
 following_role carry b =
     if carry.parity == 1 then inner else (if b == comma then separator else (if b == line_feed then record_end else inner))
 
--- the text may end here: outside double quotes, and behind no CR
+-- the text may end here: outside double quotes, and after no CR
 abbrev pub may_end_outside : LastByte → Bool
 may_end_outside field_start = true
 may_end_outside a_double_quote = true

@@ -46,7 +46,7 @@ pub record OneStructure : Type 0 where
   pub record_ends : (bytes : List ℕ) (roles : List Role) (place : ℕ) → AreRoles bytes roles
       → slice_get roles place ≡ Some record_end → slice_get bytes place ≡ Some line_feed
 
--- what may follow a viable text hangs on the parity of its double quotes and on its last byte
+-- what may follow a viable text depends on the parity of its double quotes and on its last byte
 pub record WhatFollows : Type 0 where
   pub empty : IsViable []
   pub front : (text more : List ℕ) → IsViable (text ++ more) → IsViable text
@@ -54,7 +54,7 @@ pub record WhatFollows : Type 0 where
   pub byte : (text : List ℕ) (b : ℕ) → IsViable text → IsTrue (may_follow (carry_of text) b) ↔ IsViable (text ++ b ∷ [])
   pub role : (text : List ℕ) (roles : List Role) (b : ℕ) → AreRoles text roles → IsViable (text ++ b ∷ [])
       → AreRoles (text ++ b ∷ []) (roles ++ following_role (carry_of text) b ∷ [])
-  -- where it may not, there the fault is, whatever comes behind it
+  -- where it may not, there the fault is, whatever comes after it
   pub fault : (text : List ℕ) (b : ℕ) (more : List ℕ) → IsViable text → ¬ (IsViable (text ++ b ∷ []))
       → HasFault (text ++ b ∷ more) (length text) (cause_at (text ++ b ∷ more) (length text))
   -- where the text may end it has records, and where not it is unfinished

@@ -27,7 +27,7 @@ field_of raw = if raw.quoted then quoted (halved raw.bytes) else unquoted raw.by
 abbrev pub raw_content : RawField → List ℕ
 raw_content raw = content (field_of raw)
 
--- the fields of the header, and those of each row behind it, as they stand
+-- the fields of the header, and those of each row after it, as they stand
 pub record RawTable : Type 0 where
   pub header : List RawField
   pub rows : List (List RawField)

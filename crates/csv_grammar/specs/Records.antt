@@ -53,7 +53,7 @@ print_record (field ∷ next ∷ fields) = print_field field ++ comma ∷ print_
 abbrev pub IsRecord : List Field → Type 0
 IsRecord fields = (0 < length fields) × AllByRecursion IsField fields
 
--- a record and the line break behind it
+-- a record and the line break after it
 pub record Line : Type 0 where
   pub fields : List Field
   pub end : LineBreak

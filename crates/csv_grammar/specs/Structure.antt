@@ -1,5 +1,5 @@
 -- Where the structure of a text stands (RFC 4180, section 2, rules 1, 2 and 4): the commas that part fields and the LFs that
--- end records are its structural places. The roles of a tree's bytes are told beside its printer, part for part.
+-- end records are its structural places. The roles of a tree's bytes are defined beside its printer, part for part.
 use Rattle.std.specs.Prelude.{◌≡◌, ℕ, List, [], ◌∷◌, ◌++◌, length, map, take, Option, None, Some}
 use Rattle.std.specs.List.{flat_map}
 use Rattle.csv_grammar.specs.Records.{Field, LineBreak, crlf, lf, Line, CsvText, print_field, print_text, IsText}

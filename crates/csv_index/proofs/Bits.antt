@@ -104,7 +104,7 @@ split_step : (t : Bool) (x : ℕ) (xs ys zs : List ℕ) → zs ≡ xs ++ ys → 
 split_step true x xs ys zs e = ap (λ l. x ∷ l) e
 split_step false x xs ys zs e = e
 
--- the first a bits, and those behind them
+-- the first a bits, and those after them
 pub places_split : (at w i j a b n : ℕ) → j ≡ i + a → n ≡ a + b → set_places at w i n ≡ set_places at w i a ++ set_places at w j b
 unfolding set_places
 places_split at w i j zero b n ej en = let e : n ≡ b = omega arith in let f : j ≡ i = omega arith in rw (e, f) refl

@@ -9,7 +9,7 @@ use Rattle.csv_index.specs.Index.{AreAscii, Rise, start_at}
 use Rattle.csv_index.specs.Fields.{AreLeft}
 use Rattle.csv_index.proofs.CellLemmas.{AllByRecursion-at, start_before}
 
--- the byte behind a piece of the file
+-- the byte after a piece of the file
 pub ascii_at : (file bytes : List ℕ) (b : ℕ) (rest : List ℕ) (at end : ℕ) → drop at file ≡ bytes ++ b ∷ rest → end ≡ at + length bytes → b < 128
     → slice_index file end < 128
 ascii_at file bytes b rest at end e h small =
@@ -24,14 +24,14 @@ ascii_end file end h = omega (arith, get_or_past file end 0 (omega arith))
 pub boundary_at : (bytes : List ℕ) (end : ℕ) → end ≤ length bytes → slice_index bytes end < 128 → IsCharBoundary bytes end
 boundary_at bytes end within small = (within, λ _ wide. omega arith)
 
--- behind a place that another follows
+-- after a place that another follows
 pub boundary_behind : (start end : ℕ) (ends bytes : List ℕ) → IsUtf8 bytes → Rise start (end ∷ ends) (length bytes) → AreAscii bytes (end ∷ ends) → 0 < length ends
     → IsCharBoundary bytes (end + 1)
 boundary_behind start end [] bytes utf8 rise ascii some = absurd (omega arith)
 boundary_behind start end (next ∷ ends) bytes utf8 rise ascii some =
     IsCharBoundary-after_ascii bytes end utf8 (omega (arith, rise.2.0, rise.2.1)) ascii.0
 
--- what is left behind the first of the places
+-- what is left after the first of the places
 pub left_behind : (start end : ℕ) (ends bytes : List ℕ) → AreLeft start (end ∷ ends) bytes → AreLeft (end + 1) ends bytes
 left_behind start end ends bytes left = record {
   rise = left.rise.2;
@@ -41,7 +41,7 @@ left_behind start end ends bytes left = record {
   ascii = left.ascii.1;
 }
 
--- behind the place of that number
+-- after the place of that number
 pub boundary_next : (start : ℕ) (ends bytes : List ℕ) (n end : ℕ) → IsUtf8 bytes → Rise start ends (length bytes) → AreAscii bytes ends → slice_get ends n ≡ Some end
     → 0 < length (drop (suc n) ends) → IsCharBoundary bytes (end + 1)
 boundary_next start [] bytes n end utf8 rise ascii e some = absurd (cc)

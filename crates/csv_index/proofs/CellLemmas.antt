@@ -8,7 +8,7 @@ use Rattle.std.specs.Str.{is_utf8}
 use Rattle.csv_fields.specs.Between.{cut, raw_between}
 use Rattle.csv_index.specs.Index.{Places, raws, start_at, Rise, AreAscii, FitsFile}
 
--- what is in a list behind a front
+-- what is in a list after a front
 pub slice_get-behind : {A : Type 0} (xs ys : List A) (n k : ℕ) → n ≡ length xs + k → slice_get (xs ++ ys) n ≡ slice_get ys k
 slice_get-behind [] ys n k e = let same : n ≡ k = omega arith in ap (λ i. slice_get ys i) same
 slice_get-behind (x ∷ xs) ys zero k e = absurd (omega arith)
@@ -38,7 +38,7 @@ start_before start size [] n end rise e = absurd (cc)
 start_before start size (first ∷ ends) zero end rise e = let same : first ≡ end = cc in (omega (arith, rise.0), omega (arith, rise.1))
 start_before start size (first ∷ ends) (suc n) end rise e = start_before (first + 1) size ends n end rise.2 e
 
--- and behind the one before it
+-- and after the one before it
 pub start_next : (start : ℕ) (ends : List ℕ) (before n end : ℕ) → n ≡ before + 1 → slice_get ends before ≡ Some end → start_at start ends n ≡ end + 1
 start_next start [] before n end k e = absurd (cc)
 start_next start (first ∷ ends) before zero end k e = absurd (omega arith)
@@ -54,7 +54,7 @@ rise_length start size [] rise h = absurd (omega arith)
 rise_length start size (end ∷ []) rise h = omega (arith, rise.0, rise.1)
 rise_length start size (end ∷ next ∷ ends) rise h = omega (arith, rise.0, rise_length (end + 1) size (next ∷ ends) rise.2 (omega arith))
 
--- what is behind a place
+-- what is after a place
 pub rise_behind : (start size : ℕ) (ends : List ℕ) (n end : ℕ) → Rise start ends size → slice_get ends n ≡ Some end → Rise (end + 1) (drop (suc n) ends) size
 rise_behind start size [] n end rise e = absurd (cc)
 rise_behind start size (first ∷ ends) zero end rise e = let same : first ≡ end = cc in subst (λ k. Rise (k + 1) ends size) same rise.2

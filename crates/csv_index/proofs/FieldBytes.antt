@@ -1,4 +1,4 @@
--- The bytes of a field in a file, with or without the CR of a line break behind them, say how the field stands.
+-- The bytes of a field in a file, with or without the CR of a line break after them, say how the field stands.
 use Rattle.std.proofs.Common.{◌≡◌, ℕ, ◌-◌, ◌<◌, zero, suc, List, [], ◌∷◌, ◌++◌, length, get_or, Bool, true, false, cond, ◌==◌, refl, ap, subst, ◌∙◌, arith, length-append}
 use Rattle.std.specs.Prelude.{IsTrue, IsUtf8, not, ◌||◌, slice_range}
 use Rattle.std.specs.List.{AllByRecursion}
@@ -66,7 +66,7 @@ unwrapped_field (quoted content) valid =
 pub raw_between_field : (field : Field) → IsField field → raw_between (print_field field) ≡ raw_of field
 raw_between_field field valid = ap unwrapped (without_return_field field valid) ∙ unwrapped_field field valid
 
--- the field whose bytes they are, with a CR behind
+-- the field whose bytes they are, with a CR after
 pub raw_between_return : (field : Field) → IsField field → raw_between (print_field field ++ carriage_return ∷ []) ≡ raw_of field
 raw_between_return field valid = ap unwrapped (without_return_push (print_field field) carriage_return) ∙ unwrapped_field field valid
 
@@ -80,7 +80,7 @@ utf8_before xs b ys small utf8 =
     subst IsUtf8 (take_at xs (b ∷ ys) (length xs) refl)
     (IsUtf8-take (xs ++ b ∷ ys) (length xs) utf8 (IsCharBoundary-before_ascii (xs ++ b ∷ ys) (length xs) within here))
 
--- what stands behind an ASCII byte is text
+-- what stands after an ASCII byte is text
 pub utf8_behind : (b : ℕ) (ys : List ℕ) → b < 128 → IsUtf8 (b ∷ ys) → IsUtf8 ys
 utf8_behind b ys small utf8 =
     IsUtf8-drop (b ∷ ys) 1 utf8 (IsCharBoundary-after_ascii (b ∷ ys) 0 utf8 (omega arith) small)

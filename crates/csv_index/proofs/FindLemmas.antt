@@ -1,4 +1,4 @@
--- The place behind a field, found among blocks, and those that follow.
+-- The place after a field, found among blocks, and those that follow.
 use Rattle.std.proofs.Common.{◌≡◌, ℕ, zero, suc, ◌+◌, ◌-◌, ◌*◌, ◌%◌, ◌^◌, ◌<◌, ◌≤◌, List, [], ◌∷◌, ◌++◌, length, length-append, append_assoc, drop, Option, None, Some, refl, sym, ap, ◌∙◌, arith, bit_and, w64, Bool, true, false, ◌==◌, ◌≢◌}
 use Rattle.std.proofs.lemmas.Bool.{eqb-true, eqb-false}
 use Rattle.std.specs.Prelude.{slice_get, option_to_list}
@@ -52,7 +52,7 @@ last_place start n blocks last past within = on last within
           ap (λ k. drop (k + 1) (block_places start blocks ++ end ∷ [])) here ∙ drop-append-add (block_places start blocks) (end ∷ []) 1,
         )
 
--- ---- the bits behind one
+-- ---- the bits after one
 
 behind_mask : (w bit : ℕ) → bit < 64 → (k : ℕ) → bit ≤ k → k < 64 → bit_at (bit_and w ((2 ^ 64 - 1) * 2 ^ bit % 2 ^ 64)) k ≡ bit_at w k
 behind_mask w bit within k from most =

@@ -216,7 +216,7 @@ first_table places bytes rows fits within =
     ∙ ap (table_of (take width fields)) (rows_cut_front rows width (drop width fields))
     ∙ ap (table_of (take width fields)) (sym (take-rows_cut rows places.rows width (drop width fields) ∙ ap (λ k. rows_cut k width (drop width fields)) few))
 
--- there are few rows, where there are so many places
+-- there are few rows, if there are more places than they need
 pub few_rows : (places : Places) (row size : ℕ) → Rise places.start places.ends size → 0 < places.width → (row + 1) * places.width < length places.ends
     → (row + 1 ≤ (row + 1) * places.width) × ((row + 1) * places.width ≤ size)
 few_rows places row size rise wide within =

@@ -1,4 +1,4 @@
--- A file may be cut behind its byte order mark.
+-- A file may be cut after its byte order mark.
 use Rattle.std.proofs.Common.{◌≡◌, ℕ, List, ◌++◌, drop, Bool, true, false, cond, nat_eq, refl, sym, ap, ◌∙◌, arith}
 use Rattle.std.specs.Prelude.{IsUtf8}
 use Rattle.std.specs.List.{starts_with}

@@ -91,7 +91,7 @@ marked_roles sep eol i (role ∷ roles) s e =
     first record_end hs he = rw (he.1 refl) refl
     first inner hs he = rw (ne_eqb (bit_at eol i) 1 (λ set. not_end (he.0 set)), ne_eqb (bit_at sep i) 1 (λ set. not_separator (hs.0 set))) refl
 
--- what the masks say of a block behind a front
+-- what the masks say of a block after a front
 pub record BlockRoles (t b : List ℕ) (roles : List Role) (sep eol : ℕ) : Type 0 where
   pub next : List Role
   pub are : AreRoles (t ++ b) next

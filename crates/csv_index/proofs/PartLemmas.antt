@@ -35,7 +35,7 @@ fill_put (place ∷ places) ys i k x is within before here =
     let inner : i < length places = omega arith in
     rw is (take_put places ys i x inner before here, refl)
 
--- so many rows of those that fields are cut into
+-- the first `n` of the rows that fields are cut into
 pub take-rows_cut : (n rows width : ℕ) (fields : List RawField) → take n (rows_cut rows width fields) ≡ rows_cut (min rows n) width fields
 take-rows_cut zero rows width fields = let none : min rows 0 ≡ 0 = omega arith in rw none refl
 take-rows_cut (suc n) zero width fields = let none : min 0 (suc n) ≡ 0 = omega arith in rw none refl
@@ -62,7 +62,7 @@ drop-rows_cut (suc n) (suc rows) width fields =
     ∙ ap (rows_cut (rows - min rows n) width) (drop-drop (min rows n * width) width fields ∙ ap (λ k. drop k fields) (past ∙ ap (λ k. k * width) (sym one)))
     ∙ ap (λ k. rows_cut k width (drop (min (suc rows) (suc n) * width) fields)) left
 
--- the fields after so many places
+-- the fields after `m` places
 pub cut_past : (places ends bytes : List ℕ) (m : ℕ) → m < length places
     → cut (slice_index places m + 1) ends bytes ≡ drop m (cut (slice_index places 0 + 1) (take m (drop 1 places) ++ ends) bytes)
 cut_past [] ends bytes m h = absurd (omega arith)
@@ -156,7 +156,7 @@ room_next left more most width size is room =
     let cells : min (left - more) most * width ≤ more * width = mul-le-mul fewer same in
     omega (arith, cells)
 
--- and so many fields are left
+-- and this many fields are left
 pub count_next : (left more most width count size : ℕ) → more ≡ min left most → count ≡ left * width → size ≡ count - more * width → size ≡ (left - more) * width
 count_next left more most width count size is all rest =
     let whole : left ≡ more + (left - more) = omega arith in

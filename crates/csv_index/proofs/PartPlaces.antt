@@ -64,7 +64,7 @@ take_front (suc n) m (x ∷ xs) =
     let more : suc n + m ≡ suc (n + m) = omega arith in
     ap (λ k. take (suc n) (take k (x ∷ xs))) more ∙ ap (λ rest. x ∷ rest) (take_front n m xs)
 
--- rows are cut from so many fields
+-- rows are cut from the fields that they need
 pub rows_cut_front : (n width : ℕ) (fields : List RawField) → rows_cut n width (take (n * width) fields) ≡ rows_cut n width fields
 rows_cut_front zero width fields = refl
 rows_cut_front (suc n) width fields =

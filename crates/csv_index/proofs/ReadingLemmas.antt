@@ -1,4 +1,4 @@
--- A reading in blocks: what is known behind a front of the text, and with one block more.
+-- A reading in blocks: what is known after a front of the text, and with one block more.
 use Rattle.std.proofs.Common.{◌≡◌, ℕ, zero, suc, ◌+◌, ◌-◌, ◌*◌, ◌%◌, ◌^◌, ◌<◌, ◌≤◌, ◌==◌, List, [], ◌∷◌, ◌++◌, length, length-append, length-drop, append-nil, take, drop, Bool, true, false, cond, Some, refl, sym, ap, inl, inr, ◌∙◌, subst, arith, bit_or, ltb}
 use Rattle.std.specs.Prelude.{◌⊎◌, slice_get, min}
 use Rattle.std.specs.Vec.{vec_len, vec_capacity}
@@ -27,7 +27,7 @@ use Rattle.csv_index.proofs.WidthLemmas.{roles_counted-append, places_counted, c
 use Rattle.csv_index.proofs.TreeCounts.{open_after-append}
 use Rattle.csv_index.proofs.NextBlocks.{block_roles, next_block, StepsTo, less_wide, length-next_block, length-front, next_front}
 
--- ---- behind a front of the text
+-- ---- after a front of the text
 
 pub has_read_none : OneStructure → WhatFollows → (text : List ℕ) → HasReadText text 0 (carry_of []) [] uncounted false
 has_read_none laws follows text =
@@ -104,7 +104,7 @@ block_open was sep eol last len e =
     ∙ open_after-append was (mask_roles sep eol 0 last) (mask_role sep eol last ∷ [])
     ∙ open_bit (bit_at eol last) (bit_at sep last == 1) (bit_at-lt eol last)
 
--- the counts behind a front of the text: so many structural places stand before the next block, and no more than there are bytes
+-- the counts after a front of the text: how many structural places come before the next block, and no more than there are bytes
 pub record AreCounts (text : List ℕ) (blocks : List ByteBlock) (widths : Widths) : Type 0 where
   pub before : widths.places ≡ length (block_places 0 blocks)
   pub places : widths.places ≤ length text
@@ -188,7 +188,7 @@ pub record IsUnderWay (text rest : List ℕ) (r : Reading) : Type 0 where
 pub left_is : (text rest : List ℕ) (r : Reading) → IsUnderWay text rest r → length rest ≡ bytes_left text r
 left_is text rest r going = ap length going.rest_is ∙ length-drop (64 * vec_len r.blocks) text
 
--- all that is behind the blocks, of which the last may be short
+-- all that is after the blocks, of which the last may be short
 pub under_way : (text : List ℕ) (r : Reading) (at : ℕ) → at ≡ min (vec_len r.blocks * 64) (length text) → IsBlockReading text r
     → IsUnderWay text (take (length text - at) (drop at text)) r
 under_way text r at is reads = record {

@@ -1,4 +1,4 @@
--- What the roles of a tree's bytes count, and whether they end behind a record.
+-- What the roles of a tree's bytes count, and whether they end after a record.
 use Rattle.std.proofs.Common.{◌≡◌, ℕ, zero, suc, ◌+◌, ◌-◌, ◌<◌, List, [], ◌∷◌, ◌++◌, length, append_assoc, append-nil, map, Bool, true, false, cond, Option, Some, None, refl, sym, ap, ◌∙◌, subst, arith}
 use Rattle.std.specs.Prelude.{option_to_list, IfSome, is_some}
 use Rattle.std.specs.List.{AllByRecursion, flat_map}
@@ -11,7 +11,7 @@ use Rattle.csv_index.specs.declared.widths.Widths.{Widths}
 use Rattle.csv_index.proofs.Counting.{counts_push}
 use Rattle.csv_index.proofs.Trees.{length-record_roles}
 
--- ---- whether bytes stand behind the end of a record
+-- ---- whether bytes stand after the end of a record
 
 pub open_after-append : (was : Bool) (xs ys : List Role) → open_after was (xs ++ ys) ≡ open_after (open_after was xs) ys
 open_after-append was [] ys = refl
@@ -102,7 +102,7 @@ counted_more records fields w n e none counted = record {
   widths = counts_push (with_places w n) (w.places + n + 1 - w.start) records fields counted.count (omega arith) counted.widths;
 }
 
--- behind lines
+-- after lines
 pub record CountsOn (records : List (List Field)) (w : Widths) (roles more : List Role) : Type 0 where
   pub behind : Widths
   pub counted : AreCounted records behind

@@ -19,7 +19,7 @@ use Rattle.csv_index.specs.Reading.{role_places}
 use Rattle.csv_index.proofs.Bits.{role_places-append}
 use Rattle.csv_index.proofs.FieldBytes.{raw_between_field, raw_between_return, utf8_before, utf8_behind, utf8_field}
 
--- the file is parted behind a place
+-- the file is parted after a place
 pub record Pieces (file : List ℕ) (at : ℕ) (ends : List ℕ) (raws : List RawField) : Type 0 where
   pub are : map raw_between (cut at ends file) ≡ raws
   pub rise : Rise at ends (length file)

@@ -24,7 +24,7 @@ places_counted w at (separator ∷ roles) = omega (arith, places_counted (role_c
 places_counted w at (record_end ∷ roles) = omega (arith, places_counted (role_counted w record_end) (at + 1) roles)
 places_counted w at (inner ∷ roles) = places_counted w (at + 1) roles
 
--- a record begins behind some of them, and there are no more records than bytes
+-- a record begins after some of them, and there are no more records than bytes
 pub counted_most : (w : Widths) (roles : List Role) → w.start ≤ w.places
     → ((roles_counted w roles).start ≤ (roles_counted w roles).places) × ((roles_counted w roles).records ≤ w.records + length roles)
 counted_most w [] h = (h, omega arith)
@@ -163,7 +163,7 @@ none_ended w ends eol small none =
     no_ends ends eol 0 64 w 0 (count_ones ends) (λ k h l. ap (λ e. bit_at e k) no ∙ bit_at-zero k) (sym (ones_none ends)) (sym (ones_whole ends small))
     ∙ ap (λ k. record w { places = k }) sum
 
--- one ends, at the structural place that has so many before it in the block
+-- one ends, at the structural place that has `before` others before it in the block
 one_ended : (w : Widths) (ends eol before place : ℕ) → ends < 2 ^ 64 → IsOne eol place → ((k : ℕ) → bit_at eol k ≡ 1 → bit_at ends k ≡ 1)
     → before ≡ count_ones (ends % 2 ^ place) → roles_counted w (mask_roles ends eol 0 64) ≡ with_places (record_ended w (w.places + before)) (count_ones ends)
 one_ended w ends eol before place small one within is =

@@ -23,7 +23,7 @@ rank blocks number = length (block_places 0 (take number blocks))
 abbrev pub AreRanked : List ByteBlock → Type 0
 AreRanked blocks = (number : ℕ) (block : ByteBlock) → slice_get blocks number ≡ Some block → block.before ≡ rank blocks number
 
--- the bit of the block of that number is the structural place number n: so many stand before it, and these behind
+-- the bit of the block of that number is the structural place number n: n places come before it, and these after
 pub record Stands (blocks : List ByteBlock) (n number bit : ℕ) : Type 0 where
   pub block : ByteBlock
   pub is : slice_get blocks number ≡ Some block

@@ -33,6 +33,6 @@ text_fault_text NoMemory = codes "NoMemory"
 abbrev pub IsNotUtf8 : List ℕ → TextFault → Type 0
 IsNotUtf8 bytes fault = ¬ (IsUtf8 bytes) × (fault ≡ NotUtf8 (utf8_valid_len bytes))
 
--- the error is what is first wrong with the file, or want of memory
+-- the error is what is first wrong with the file, or that memory ran out
 abbrev pub IsTextFault : List ℕ → TextFault → Type 0
 IsTextFault bytes fault = IfSome (text_cause fault) (IsFileFault bytes)

@@ -1,4 +1,4 @@
--- A table as it stands in its file, and what an index knows of that: the structural places, which are the comma or the LF behind each
+-- A table as it stands in its file, and what an index knows of that: the structural places, which are the comma or the LF after each
 -- field, or the end of the file (RFC 4180, section 2).
 use Rattle.std.specs.Prelude.{◌≡◌, ℕ, zero, suc, ◌+◌, ◌*◌, ◌<◌, ◌≤◌, true, List, [], ◌∷◌, length, map, take, drop, slice_index}
 use Rattle.std.specs.List.{flat_map, AllByRecursion}
@@ -28,9 +28,9 @@ pub record Places : Type 0 where
   pub start : ℕ
   -- how many fields a record has
   pub width : ℕ
-  -- how many records stand behind the header
+  -- how many records stand after the header
   pub rows : ℕ
-  -- the place behind each field, record after record, the header first
+  -- the place after each field, record after record, the header first
   pub ends : List ℕ
 
 -- the fields between the places
@@ -68,7 +68,7 @@ pub record FitsFile (places : Places) (bytes : List ℕ) : Type 0 where
   pub boundary : IsCharBoundary bytes places.start
   pub ascii : AreAscii bytes places.ends
 
--- the places of the header and of so many rows
+-- the places of the header and of the first `rows` rows
 abbrev pub first_places : ℕ → Places → Places
 first_places rows places = record places { rows = rows; ends = take ((rows + 1) * places.width) places.ends }
 

@@ -1,4 +1,4 @@
--- What is known of a text behind its first blocks of 64 bytes (RFC 4180, section 2), in the words of the grammar.
+-- What is known of a text after its first blocks of 64 bytes (RFC 4180, section 2), in the words of the grammar.
 use Rattle.std.specs.Prelude.{◌≡◌, ℕ, ◌+◌, ◌-◌, ◌*◌, ◌<◌, ◌≤◌, List, [], ◌∷◌, length, take, Bool, true, false}
 use Rattle.std.specs.Vec.{vec_len, vec_capacity}
 use Rattle.csv_grammar.specs.Faults.{IsViable, cause_at, HasFault}
@@ -17,13 +17,13 @@ role_places at (separator ∷ roles) = at ∷ role_places (at + 1) roles
 role_places at (record_end ∷ roles) = at ∷ role_places (at + 1) roles
 role_places at (inner ∷ roles) = role_places (at + 1) roles
 
--- a record is under way behind a byte of that role
+-- a record is under way after a byte of that role
 abbrev pub role_open : Role → Bool
 role_open separator = true
 role_open record_end = false
 role_open inner = true
 
--- and behind bytes of these roles: behind none, as before them
+-- and after bytes of these roles: after none, as before them
 abbrev pub open_after : Bool → List Role → Bool
 open_after was [] = was
 open_after was (role ∷ roles) = open_after (role_open role) roles
@@ -51,10 +51,10 @@ pub record IsBlockReading (text : List ℕ) (r : Reading) : Type 0 where
   pub within : 64 * vec_len r.blocks < length text + 64
   pub room : length text ≤ 64 * vec_capacity r.blocks
 
--- so many bytes are left
+-- how many bytes are left
 abbrev pub bytes_left : List ℕ → Reading → ℕ
 bytes_left text r = length text - 64 * vec_len r.blocks
 
--- so many bytes are left from the text's first fault on
+-- `left` bytes are left from the text's first fault on
 abbrev pub HasFaultFrom : List ℕ → ℕ → Type 0
 HasFaultFrom text left = (0 < left) × (left ≤ length text) × HasFault text (length text - left) (cause_at text (length text - left))

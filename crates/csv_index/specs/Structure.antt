@@ -20,7 +20,7 @@ use Rattle.csv_index.specs.declared.fault.TextFault.TheVariants.{NoMemory}
 abbrev pub all_fields : List (List Field) → List Field
 all_fields records = flat_map (λ fields. fields) records
 
--- the places are those behind these fields, each field is text, and no character is cut
+-- the places are those after these fields, each field is text, and no character is cut
 pub record Cuts (file : List ℕ) (mark : ℕ) (ends : List ℕ) (fields : List Field) : Type 0 where
   pub raws : map raw_between (cut mark ends file) ≡ map raw_of fields
   pub rise : Rise mark ends (length file)
@@ -28,7 +28,7 @@ pub record Cuts (file : List ℕ) (mark : ℕ) (ends : List ℕ) (fields : List 
   pub boundary : IsCharBoundary file mark
   pub ascii : AreAscii file ends
 
--- the places behind the fields: those of the blocks, and the end of a last record with no line break
+-- the places after the fields: those of the blocks, and the end of a last record with no line break
 abbrev pub ends_of : ℕ → List ByteBlock → Option ℕ → List ℕ
 ends_of start blocks last = block_places start blocks ++ option_to_list last
 
@@ -41,7 +41,7 @@ pub record ReadsAsRecords (file : List ℕ) (mark : ℕ) (records : List (List F
   pub ranked : AreRanked blocks
   pub room : mark + 64 * length blocks + 64 < 2 ^ 64
 
--- the error is want of memory, or it tells the fault of the text behind the mark
+-- the error is that memory ran out, or it names the fault of the text after the mark
 abbrev pub HasTextFault : TextFault → List ℕ → ℕ → Type 0
 HasTextFault e file mark =
     (e ≡ NoMemory) ⊎ ((place : ℕ) × (cause : Cause) × HasFault (drop mark file) place cause × (text_cause e ≡ Some (malformed cause (mark + place))))

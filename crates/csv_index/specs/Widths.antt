@@ -11,7 +11,7 @@ use Rattle.csv_index.specs.declared.widths.Widths.{Widths}
 abbrev pub uncounted : Widths
 uncounted = record { places = 0; start = 0; records = 0; width = 0; uneven = None }
 
--- the first record's width, where one more record of so many fields ends
+-- the first record's width, if one more record of `fields` fields ends
 abbrev pub width_with : Widths → ℕ → ℕ
 width_with w fields = if w.records == 0 then fields else w.width
 
@@ -28,11 +28,11 @@ record_ended w at = record w {
   uneven = uneven_with w (at + 1 - w.start);
 }
 
--- so many structural places more, none of which ends a record
+-- `n` structural places more, none of which ends a record
 abbrev pub with_places : Widths → ℕ → Widths
 with_places w n = record w { places = w.places + n }
 
--- behind one more byte of that role
+-- after one more byte of that role
 abbrev pub role_counted : Widths → Role → Widths
 role_counted w separator = record w { places = w.places + 1 }
 role_counted w record_end = record (record_ended w w.places) { places = w.places + 1 }

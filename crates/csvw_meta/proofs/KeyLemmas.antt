@@ -17,7 +17,7 @@ use Rattle.csvw_meta.specs.Texts.{is_texts}
 use Rattle.csvw_meta.specs.Column.{name_of}
 use Rattle.csvw_meta.specs.Key.{text_or_empty, key_names, are_different, are_key_names, is_key, column_place, key_of}
 
--- the texts from the i-th on are different where the i-th is none of those behind it, and those are different
+-- the texts from the i-th on are different where the i-th is none of those after it, and those are different
 pub are_different-from : (vs : List Value) (i : ℕ) (v : Value) (text : List ℕ) (twice : Bool) → i < length vs → get_or vs i v ≡ v → text ≡ text_or_empty (view v)
     → twice ≡ list_any (λ value. bytes_eq text (text_or_empty (view value))) (take (length vs - (i + 1)) (drop (i + 1) vs))
     → are_different (map text_or_empty (map view (drop i vs))) ≡ (not twice && are_different (map text_or_empty (map view (drop (i + 1) vs))))

@@ -40,7 +40,7 @@ at_head (Some cause) xs h = absurd (cc)
 pub head_met : {x : Condition} {xs : List Condition} → AllMet (x ∷ xs) → x ≡ None
 head_met {x} {xs} h = (at_head x xs h.none).0
 
--- those behind it
+-- those after it
 pub tail_met : {x : Condition} {xs : List Condition} → AllMet (x ∷ xs) → AllMet xs
 tail_met {x} {xs} h = record { none = (at_head x xs h.none).1 }
 
@@ -53,7 +53,7 @@ at_both (Some cause ∷ xs) ys h = absurd (cc)
 pub front_met : (xs ys : List Condition) → AllMet (xs ++ ys) → AllMet xs
 front_met xs ys h = record { none = (at_both xs ys h.none).0 }
 
--- those behind others
+-- those after others
 pub back_met : (xs ys : List Condition) → AllMet (xs ++ ys) → AllMet ys
 back_met xs ys h = record { none = (at_both xs ys h.none).1 }
 

@@ -1,4 +1,4 @@
--- The first cause of conditions behind others.
+-- The first cause of conditions after others.
 use Rattle.std.proofs.Common.{◌≡◌, ◌<◌, ℕ, ◌+◌, List, [], ◌∷◌, ◌++◌, map, length, take, drop, get_or, None, Some, refl}
 use Rattle.std.proofs.lemmas.List.{take_more, drop_more, map-append}
 use Rattle.serde_json.specs.Data.{Data}
@@ -17,7 +17,7 @@ abbrev pub first_of_both : Condition → Condition → Condition
 first_of_both None d = d
 first_of_both (Some cause) d = Some cause
 
--- of conditions and others behind them
+-- of conditions and others after them
 pub first_cause-append : (xs ys : List Condition) → first_cause (xs ++ ys) ≡ first_of_both (first_cause xs) (first_cause ys)
 first_cause-append [] ys = refl
 first_cause-append (None ∷ xs) ys = first_cause-append xs ys

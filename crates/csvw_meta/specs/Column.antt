@@ -37,7 +37,7 @@ object_column_conditions earlier d =
     ∷ ensure (fits is_titles (member (codes "titles") d)) (codes "BadTitles")
     ∷ inherited_conditions d
 
--- the conditions on a column behind the earlier ones
+-- the conditions on a column after the earlier ones
 unfoldable pub column_conditions : List Data → Data → List Condition
 column_conditions earlier d = if is_some (as_object d) then object_column_conditions earlier d else Some (codes "NotObject") ∷ []
 

@@ -46,7 +46,7 @@ may_have_format d = not (has (codes "format") d) || has_formats (base_in d)
 abbrev pub is_bar : ℕ → Bool
 is_bar byte = byte == 124
 
--- what stands before the first bar and what stands behind it: neither is empty, they are different, and there is no other bar
+-- what stands before the first bar and what stands after it: neither is empty, they are different, and there is no other bar
 abbrev pub boolean_texts : List ℕ → Option (List ℕ × List ℕ)
 boolean_texts format = let of_true = before_first is_bar format in let of_false = after_first is_bar format in
     if nat_lt 0 (length of_true) && nat_lt 0 (length of_false) && not (bytes_eq of_true of_false) && not (list_any is_bar of_false)

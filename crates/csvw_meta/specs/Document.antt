@@ -19,7 +19,7 @@ use Rattle.csvw_meta.specs.Group.{group_conditions, group_schemas}
 abbrev pub schemas_view : Schemas → List SchemaOf
 schemas_view schemas = map schema_view schemas.tables.items
 
--- the value that the bytes are, behind a byte order mark: not too many bytes, of UTF-8 and of JSON
+-- the value that the bytes are, after a byte order mark: not too many bytes, of UTF-8 and of JSON
 unfoldable pub document : List ℕ → Option Data
 document bytes = if nat_le (length bytes) MOST_METADATA_BYTES && is_utf8 (text_of bytes) then read (text_of bytes) else None
 

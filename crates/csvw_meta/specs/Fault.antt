@@ -26,7 +26,7 @@ meta_fault_name meta.BadTitles = codes "BadTitles"
 meta_fault_name meta.BadKey = codes "BadKey"
 meta_fault_name meta.NoMemory = codes "NoMemory"
 
--- what metadata is refused for: the name of its fault, and behind Unsupported a space and the key as it stands in the metadata
+-- what metadata is refused for: the name of its fault, and after Unsupported a space and the key as it stands in the metadata
 abbrev pub MetaCause : Type 0
 MetaCause = List ℕ
 
@@ -44,7 +44,7 @@ abbrev pub meta_fault_text : MetaFault → List ℕ
 meta_fault_text (meta.Unsupported key) = unsupported (escaped (string_bytes key))
 meta_fault_text fault = meta_fault_name fault
 
--- the cause that a fault is; want of memory is none
+-- the cause that a fault is; out of memory is none
 abbrev pub meta_cause : MetaFault → Option MetaCause
 meta_cause meta.NoMemory = None
 meta_cause fault = Some (fault_cause fault)

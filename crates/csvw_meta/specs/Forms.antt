@@ -4,7 +4,7 @@ use Rattle.std.specs.List.{list_all, ends_with}
 use Rattle.std.specs.Char.{is_ascii_alphabetic, is_ascii_alphanumeric}
 use Rattle.csvw_meta.specs.declared.forms.TheConstants.{MOST_NAME_BYTES, MOST_URL_BYTES}
 
--- an ASCII letter comes first, and the test holds of every byte behind it
+-- an ASCII letter comes first, and the test holds of every byte after it
 abbrev pub is_word_of : (ℕ → Bool) → List ℕ → Bool
 is_word_of test bytes = nat_lt 0 (length bytes) && is_ascii_alphabetic (slice_index bytes 0) && list_all test (drop 1 bytes)
 

@@ -81,7 +81,7 @@ abbrev pub MarkIsDropped : Type 0
 MarkIsDropped = (limits : LimitsOf) (bytes : List ℕ) → starts_with nat_eq bytes byte_order_mark ≡ false → length byte_order_mark + length bytes ≤ MOST_METADATA_BYTES
     → schemas_of limits (byte_order_mark ++ bytes) ≡ schemas_of limits bytes
 
--- what columns inherit is what the nearest level says: no level behind the first that says anything counts
+-- what columns inherit is what the nearest level says: no level after the first that says anything counts
 pub record NearestLevel : Type 0 where
   pub first : (name : List ℕ) (before : List Data) (level : Data) (behind : List Data) (value : Data) → All (λ d. member name d ≡ None) before
       → member name level ≡ Some value → nearest name (before ++ level ∷ behind) ≡ Some value

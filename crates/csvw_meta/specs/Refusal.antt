@@ -20,7 +20,7 @@ first_cause [] = None
 first_cause (None ∷ conditions) = first_cause conditions
 first_cause (Some cause ∷ conditions) = Some cause
 
--- the conditions on values one after another, each behind the earlier ones
+-- the conditions on values one after another, each after the earlier ones
 abbrev pub each_conditions : (List Data → Data → List Condition) → List Data → List Data → List Condition
 each_conditions conditions earlier [] = []
 each_conditions conditions earlier (d ∷ ds) = conditions earlier d ++ each_conditions conditions (earlier ++ d ∷ []) ds
@@ -35,7 +35,7 @@ abbrev pub condition_of : Result ⊤ Refusal → Condition
 condition_of (Ok met) = None
 condition_of (Err refusal) = Some (refusal_cause refusal)
 
--- the fault of a refusal; of what is not served it can be want of memory, for its name is copied
+-- the fault of a refusal; of what is not served it can be that memory ran out, for its name is copied
 abbrev pub IsFaultOf : Refusal → MetaFault → Type 0
 IsFaultOf (Unsupported key) fault = IfSome (meta_cause fault) (λ cause. cause ≡ unsupported key.now)
 IsFaultOf (Fault told) fault = fault ≡ told

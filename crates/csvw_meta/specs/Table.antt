@@ -40,7 +40,7 @@ object_table_conditions limits group earlier d =
     ∷ level_conditions d
     ++ schema_conditions limits (schema_in group d)
 
--- the conditions on a table of that group behind the earlier ones; a table without a group is in one that is null
+-- the conditions on a table of that group after the earlier ones; a table without a group is in one that is null
 unfoldable pub table_conditions : LimitsOf → Data → List Data → Data → List Condition
 table_conditions limits group earlier d = if is_some (as_object d) then object_table_conditions limits group earlier d else Some (codes "NotObject") ∷ []
 

@@ -18,6 +18,6 @@ without_first front (line ∷ lines) = if starts_with nat_eq line front then lin
 abbrev pub more_of : List ℕ → List ℕ
 more_of cause = cause ++ codes ": "
 
--- the first line that says more of the cause, or the cause alone, and after it the others, at most so many as are told
+-- the first line that says more of the cause, or the cause alone, and after it the others, at most as many as are reported
 abbrev pub said_lines : List ℕ → List (List ℕ) → List (List ℕ)
 said_lines cause lines = take MOST_REFUSALS (unwrap_or (first_with (more_of cause) lines) cause ∷ without_first (more_of cause) lines)

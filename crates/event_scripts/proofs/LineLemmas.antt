@@ -56,7 +56,7 @@ last_line script none some =
     go true e = absurd cc
     go false e = refl
 
--- what a slice has from its second byte on, behind a split
+-- what a slice has from its second byte on, after a split
 pub behind_first : (script : List ℕ) (at : ℕ) (tail : List ℕ) → tail ≡ drop at script → take (length tail - 1) (drop 1 tail) ≡ drop (at + 1) script
 behind_first script at tail is =
     let most : length (drop 1 tail) ≤ length tail - 1 = omega (arith, length-drop 1 tail) in

@@ -1,4 +1,4 @@
--- Numbers, and the space behind one.
+-- Numbers, and the space after one.
 use Rattle.std.proofs.Common.{◌≡◌, ◌==◌, ◌∙◌, ◌+◌, ◌-◌, ◌*◌, ◌<◌, ◌≤◌, ◌++◌, ℕ, Bool, true, false, cond, not, List, [], ◌∷◌, length, take, drop, get_or, Some, None, refl, sym, ap, subst, inl, inr, arith, length-append, lit≤}
 use Rattle.std.specs.List.{position, position_or_len}
 use Rattle.std.specs.Char.{digit_value}
@@ -20,7 +20,7 @@ no_space d digit = go (d == 32) refl
     go false is = refl
     go true is = let low : digit_value 32 < 10 = subst (λ (x : ℕ). digit_value x < 10) (eqb-true d 32 is) digit in absurd (omega (arith, low))
 
--- the first space is behind the digits
+-- the first space is after the digits
 space_behind : (number rest : List ℕ) → AllDigits 10 number → position_or_len is_space (number ++ 32 ∷ rest) ≡ length number
 space_behind [] rest h = refl
 space_behind (d ∷ number) rest h = go (is_space d) (no_space d h.0) (space_behind number rest h.1)
@@ -61,7 +61,7 @@ one_number h k =
     let second = number_at k in
     (first.number.value ∙ sym second.number.value, first.behind ∙ sym second.behind)
 
--- what stands before the first space and behind it
+-- what stands before the first space and after it
 pub number_found : (text : List ℕ) (at n : ℕ) (front rest : List ℕ) → position is_space text ≡ Some at → front ≡ take at text → rest ≡ drop (at + 1) text
     → IsNumber front n → BeginsWithNumber text n rest
 number_found text at n front rest found is behind h =

@@ -35,7 +35,7 @@ its_word Take text = refl
 its_word Drop text = refl
 its_word Reload text = refl
 
--- a line has one word, and one text behind it
+-- a line has one word, and one text after it
 pub same_word : (v w : Word) (s t : List ℕ) → letters v ++ s ≡ letters w ++ t → (v ≡ w) × (s ≡ t)
 same_word v w s t e =
     let words : Some v ≡ Some w = sym (its_word v s) ∙ ap word_at e ∙ its_word w t in
@@ -71,7 +71,7 @@ module _ (line : List ℕ) (w : Word) (text : List ℕ) (is : line ≡ letters w
       let there : IsAsked w t c = subst (λ (u : Word). IsAsked u t c) (sym same.0) h in
       subst (λ (s : List ℕ). IsAsked w s c) (sym same.1) there
 
-  -- where what stands behind the word is none of its commands, the line is no command
+  -- where what stands after the word is none of its commands, the line is no command
   pub no_command : ((c : CommandOf) → ¬ (IsAsked w text c)) → (c : CommandOf) → ¬ (IsCommand line c)
   no_command none c h = none c (asked_here c h)
 
@@ -93,7 +93,7 @@ no_word line a b c d e f g Take = e
 no_word line a b c d e f g Drop = f
 no_word line a b c d e f g Reload = g
 
--- where what stands behind the place is no text, there is no piece
+-- where what stands after the place is no text, there is no piece
 pub piece_bad : (text : List ℕ) (place : ℕ) (rest : List ℕ) → BeginsWithNumber text place rest → (fault : CommandFault)
     → ReadsEscapedText {A = Global} rest (Err fault) → ReadsCommand (IsAsked Piece text) (Err fault)
 piece_bad text place rest begins Bad none = λ _ h. none h.1 (subst (λ (t : List ℕ). StandsForBytes t h.1) (sym (one_number begins h.4).1) h.5)

@@ -1,4 +1,4 @@
--- The commands of a script. A line is a word and, one space behind it, what the word asks for; a text and a folder are the rest of the line.
+-- The commands of a script. A line is a word and, one space after it, what the word asks for; a text and a folder are the rest of the line.
 use Rattle.std.specs.Prelude.{◌≡◌, ◌≤◌, ◌==◌, ℕ, Bool, List, [], ◌∷◌, ◌++◌, codes, Result, Ok, Err}
 use Rattle.std.specs.Str.{IsUtf8}
 use Rattle.std.specs.Str.Parse.{IsNumeral, digits_value}
@@ -37,7 +37,7 @@ command_view (command.Take place room) = Take place room
 command_view (command.Drop place) = Drop place
 command_view (command.Reload folder) = Reload folder.now
 
--- the word, with the space behind it where it asks for something
+-- the word, with the space after it where it asks for something
 abbrev pub letters : Word → List ℕ
 letters word.Open = codes "open"
 letters word.Piece = codes "piece "
@@ -50,11 +50,11 @@ letters word.Reload = codes "reload "
 abbrev pub is_space : ℕ → Bool
 is_space byte = byte == 32
 
--- the text writes a number, and rest stands one space behind it
+-- the text writes a number, and rest stands one space after it
 abbrev pub BeginsWithNumber : List ℕ → ℕ → List ℕ → Type 0
 BeginsWithNumber text n rest = (number : List ℕ) × (text ≡ number ++ 32 ∷ rest) × IsNumber number n
 
--- the text behind the word makes it this command
+-- the text after the word makes it this command
 abbrev pub IsAsked : Word → List ℕ → CommandOf → Type 0
 IsAsked word.Open text c = (text ≡ []) × (c ≡ Open)
 IsAsked word.Piece text c = (place : ℕ) × (bytes rest : List ℕ) × (c ≡ Piece place bytes) × BeginsWithNumber text place rest × StandsForBytes rest bytes

@@ -13,7 +13,7 @@ carriage_return = 13
 abbrev pub line_feed : ℕ
 line_feed = 10
 
--- the byte that a character behind a backslash stands for: `r`, `n` and a backslash, and no other
+-- the byte that a character after a backslash stands for: `r`, `n` and a backslash, and no other
 abbrev pub byte_behind : ℕ → Option ℕ
 byte_behind character =
     if character == 114 then Some carriage_return
@@ -21,7 +21,7 @@ byte_behind character =
     else (if character == backslash then Some backslash
     else None))
 
--- the text begins with what stands for the byte, and rest follows that: a backslash with a character behind it, or the byte itself
+-- the text begins with what stands for the byte, and rest follows that: a backslash with a character after it, or the byte itself
 abbrev pub BeginsWithByte : List ℕ → ℕ → List ℕ → Type 0
 BeginsWithByte text byte rest =
     ((character : ℕ) × (text ≡ backslash ∷ character ∷ rest) × (byte_behind character ≡ Some byte))

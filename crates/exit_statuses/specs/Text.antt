@@ -16,7 +16,7 @@ refusal_text fault = if is_none (load_cause fault) then [] else codes "refused: 
 abbrev pub refusal_status : LoadFault → ℕ
 refusal_status fault = if is_none (load_cause fault) then MEMORY else REFUSED
 
--- the text; there is none for a device and for want of memory
+-- the text; a device and memory that ran out have none
 abbrev pub fault_text : ProgramFault → List ℕ
 fault_text (Folder folder.NoMetadata) = codes "refused: csv-metadata.json: NoMetadata"
 fault_text (Folder (folder.Load fault)) = refusal_text fault

@@ -1,4 +1,4 @@
--- Crates above may cite this file: laws of truth values alone.
+-- Crates above may cite this file: laws of booleans alone.
 use Rattle.std.proofs.Common.{◌≡◌, Bool, true, false, MatchBool, sym, subst}
 
 -- the two cases of a test

@@ -38,12 +38,12 @@ cut_unique s (h ∷ hs) (k ∷ ks) rest left closed shut a b =
     a.2 (subst P (sym same.0) b.2) in
     (ap₂ (λ (x : HeadOf) (xs : List HeadOf). x ∷ xs) same.0 tails.0, tails.1, tails.2)
 
--- one more head in front, behind which the connection stays open
+-- one more head in front, after which the connection stays open
 pub cut_before : (s : List ℕ) (h : HeadOf) (more : List ℕ) (heads : List HeadOf) (rest : List ℕ) (closed : Bool)
     → BeginsWith s h more → closes h ≡ false → IsCut more heads rest closed → IsCut s (h ∷ heads) rest closed
 cut_before s h more heads rest closed b stays cut = (more, b, MatchBool-from_false _ _ (closes h) stays cut)
 
--- a head behind which it closes
+-- a head after which it closes
 pub cut_last : (s : List ℕ) (h : HeadOf) (more : List ℕ) → BeginsWith s h more → closes h ≡ true → IsCut s (h ∷ []) [] true
 cut_last s h more b shuts = (more, b, if_true _ _ (closes h) shuts (refl, refl, refl))
 
@@ -86,7 +86,7 @@ cut_joins s p (h ∷ heads) others rest left closed a b = by_bool (closes h)
     (cut_joins a.0 p heads others rest left closed x b))
     a.2
 
--- further bytes change nothing behind a head that closes
+-- further bytes change nothing after a head that closes
 closed-append : (s p : List ℕ) (heads : List HeadOf) (rest : List ℕ) → IsCut s heads rest true → IsCut (s ++ p) heads rest true
 closed-append s p [] rest a = absurd (false≢true (sym a.1))
 closed-append s p (h ∷ hs) rest a = by_bool (closes h)
@@ -99,7 +99,7 @@ all_join = record { follows = cut_joins; closed = closed-append }
 
 -- ---- the heads of a piece, one after another
 
--- These heads stand before what is left of a stream, and none of them closes: what is cut off there is cut off behind them.
+-- These heads stand before what is left of a stream, and none of them closes: what is cut off there is cut off after them.
 abbrev pub StandBefore : List ℕ → List HeadOf → List ℕ → Type 0
 StandBefore s heads left = (others : List HeadOf) (rest : List ℕ) (closed : Bool) → IsCut left others rest closed → IsCut s (heads ++ others) rest closed
 
@@ -110,7 +110,7 @@ told_of seen h checks view told = sym (ap closes view) ∙ sym (ap (λ (x : Chec
 pub before_first : (s : List ℕ) → StandBefore s [] s
 before_first s = λ others rest closed cut. cut
 
--- one more head, which was checked, and behind which the connection stays open
+-- one more head, which was checked, and after which the connection stays open
 pub before_more : (s : List ℕ) (heads after : List HeadOf) (left : List ℕ) (seen h : HeadOf) (more : List ℕ) (checks : Checks)
     → StandBefore s heads left → BeginsWith left h more → seen ≡ h → checks ≡ checks_of seen → checks.closes ≡ false → after ≡ heads ++ seen ∷ []
     → StandBefore s after more

@@ -1,4 +1,4 @@
--- Tests of fields, on what the code keeps and on what contracts see of it; and the blanks behind a value.
+-- Tests of fields, on what the code keeps and on what contracts see of it; and the blanks after a value.
 use Rattle.std.proofs.Common.{◌≡◌, ℕ, ◌+◌, Bool, true, false, ◌||◌, ◌&&◌, cond, min, ◌≢◌, tests, List, [], ◌∷◌, ◌++◌, length, refl, arith, ◌==◌}
 use Rattle.std.specs.List.{count_by}
 use Rattle.std.proofs.lemmas.List.Sums.{sum_by_push}
@@ -35,7 +35,7 @@ last_old minor listed old = rw old refl
 pub last_new : (minor : ℕ) (listed test : Bool) → minor ≢ 0 → test ≡ listed → test ≡ ((minor == 0) || listed)
 last_new minor listed test new same = grind (arith, tests)
 
--- a blank behind the others goes
+-- a blank after the others goes
 pub back-blank : (bytes : List ℕ) (b : ℕ) → is_optional_space b ≡ true → without_back (bytes ++ b ∷ []) ≡ without_back bytes
 back-blank [] b blank = rw blank refl
 back-blank (x ∷ bytes) b blank = rw (back-blank bytes b blank) refl

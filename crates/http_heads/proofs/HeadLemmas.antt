@@ -1,4 +1,4 @@
--- Heads at the front of some bytes: there is one list of them, and the bytes behind as many as a head may have change nothing.
+-- Heads at the front of some bytes: there is one list of them, and the bytes after as many as a head may have change nothing.
 use Rattle.std.proofs.Common.{◌≡◌, ◌+◌, ◌-◌, ◌<◌, ◌≤◌, ℕ, List, [], ◌∷◌, ◌++◌, length, take, drop, refl, sym, ap, ◌∙◌, subst, arith, length-append, length-take, length-drop}
 use Rattle.std.proofs.lemmas.List.{take-append-le, take-append-drop, take_at, take_all}
 use Rattle.httparse.specs.Grammar.{RequestHead, IsRequestHead, print_request}
@@ -6,7 +6,7 @@ use Rattle.httparse.proofs.GrammarLemmas.{request_unique, ReadsRequest-append}
 use Rattle.http_heads.specs.declared.head.TheConstants.{MAX_HEAD}
 use Rattle.http_heads.specs.Head.{HeadOf, head_of, BeginsWith, BeginsWithAll, HasNoHead}
 
--- further bytes stand behind the head and its rest
+-- further bytes stand after the head and its rest
 pub begins-append : {s : List ℕ} {h : HeadOf} {r : List ℕ} (p : List ℕ) → BeginsWith s h r → BeginsWith (s ++ p) h (r ++ p)
 begins-append {s} {h} {r} p b =
     record { tree = b.tree; reads = ReadsRequest-append s b.tree r p b.reads; small = b.small; parts = b.parts }
@@ -55,7 +55,7 @@ first_none n left none h rest b =
     let P : List ℕ → Type 0 = λ x. BeginsWith x h (rest ++ drop n left) in
     none h _ (subst P (take-append-drop n left) (begins-append (drop n left) b))
 
--- nor do they behind the first of them alone
+-- nor do they after the first of them alone
 pub short_front : (left p : List ℕ) → MAX_HEAD ≤ length left → HasNoHead left → HasNoHead (take MAX_HEAD left ++ p)
 short_front left p long none =
     let all : MAX_HEAD ≤ length (take MAX_HEAD left) = omega (arith, length-take MAX_HEAD left, long) in

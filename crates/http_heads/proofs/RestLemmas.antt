@@ -1,4 +1,4 @@
--- The rest of a stream, and the pieces that can't end a head behind it.
+-- The rest of a stream, and the pieces that can't end a head after it.
 use Rattle.std.proofs.Common.{◌≡◌, ◌+◌, ◌≤◌, inl, inr, ℕ, Bool, true, false, ◌==◌, List, [], ◌∷◌, ◌++◌, length, take, drop, refl, sym, ap, ◌∙◌, subst, arith, MatchBool, length-append, length-take, append_assoc}
 use Rattle.std.specs.List.{list_any, flat_map}
 use Rattle.std.proofs.lemmas.Bool.{false≢true, cases_lt, or_right}
@@ -33,7 +33,7 @@ cut_kept s (h ∷ heads) rest closed cut = kept_behind (closes h) cut.0 heads re
 pub splits_none : (rest piece kept : List ℕ) → HasNoHead (rest ++ piece) → kept ≡ take MAX_HEAD (rest ++ piece) → Splits rest piece [] kept
 splits_none rest piece kept none same = record { left = rest ++ piece; begins = refl; none = none; kept_is = same }
 
--- behind as many bytes as a head may have
+-- after as many bytes as a head may have
 pub full_adds : (rest piece : List ℕ) → IsRest rest → length rest ≡ MAX_HEAD → (rest ≡ take MAX_HEAD (rest ++ piece)) × HasNoHead (rest ++ piece)
 full_adds rest piece is full =
     let long : MAX_HEAD ≤ length rest = omega (arith, full) in
@@ -53,7 +53,7 @@ head_last : (h : RequestHead) → (front : List ℕ) × (print_request h ≡ fro
 unfolding print_request
 head_last h = last_of_join _ _ (last_of_join (flat_map print_field h.fields) (print_end h.last) (end_last h.last))
 
--- the byte behind a front that is as long as another front stands in what is behind that
+-- the byte after a front that is as long as another front stands in what is after that
 behind_front : (rest piece front more : List ℕ) (b : ℕ) → rest ++ piece ≡ (front ++ b ∷ []) ++ more → length rest ≤ length front
     → piece ≡ drop (length rest) front ++ b ∷ more
 behind_front rest piece front more b e short =

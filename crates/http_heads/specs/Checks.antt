@@ -1,4 +1,4 @@
--- What a head says whatever its target is: what is wrong with it, and whether the connection closes behind its reply (RFC 9110, section 9;
+-- What a head says whatever its target is: what is wrong with it, and whether the connection closes after its reply (RFC 9110, section 9;
 -- RFC 9112, sections 3.2, 6 and 9.3).
 use Rattle.std.specs.Prelude.{Bool, ◌||◌, not, List, [], ◌∷◌, if◌then◌else◌, is_some, Option, None, Some}
 use Rattle.http_heads.specs.declared.checks.Checks.{Checks}
@@ -31,7 +31,7 @@ first_fault (Some fault ∷ faults) = Some fault
 unfoldable pub head_fault : HeadOf → Option HeadFault
 head_fault head = first_fault (head_faults head)
 
--- The connection closes behind the reply: where the client asks for it, or where it can't be told what follows the head.
+-- The connection closes after the reply: where the client asks for it, or where it can't be told what follows the head.
 unfoldable pub closes : HeadOf → Bool
 closes head = not (host_fits head) || has_coding head || not (has_no_length head) || asks_to_close head
 

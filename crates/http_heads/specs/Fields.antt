@@ -18,7 +18,7 @@ abbrev pub without_front : List ℕ → List ℕ
 without_front [] = []
 without_front (b ∷ bytes) = if is_optional_space b then without_front bytes else b ∷ bytes
 
--- the bytes without the blanks behind them
+-- the bytes without the blanks after them
 abbrev pub without_back : List ℕ → List ℕ
 without_back [] = []
 without_back (b ∷ bytes) = if is_optional_space b && (length (without_back bytes) == 0) then [] else b ∷ without_back bytes
@@ -27,7 +27,7 @@ without_back (b ∷ bytes) = if is_optional_space b && (length (without_back byt
 abbrev pub stripped : List ℕ → List ℕ
 stripped bytes = without_back (without_front bytes)
 
--- a list of words, parted by commas, has the word `close`
+-- a list of words, separated by commas, has the word `close`
 abbrev pub lists_close : List ℕ → Bool
 lists_close value = list_any (λ part. same_word (stripped part) (codes "close")) (slice_split (λ b. b == 44) value)
 

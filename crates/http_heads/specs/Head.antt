@@ -44,7 +44,7 @@ head_at bytes method target minor fields = record {
 abbrev pub found_head : List ℕ → List HeaderSpan → RequestSpans → HeadOf
 found_head bytes headers spans = head_at bytes spans.method spans.path spans.version (take spans.headers headers)
 
--- at most so many bytes, and at most so many fields
+-- at most `MAX_HEAD` bytes, and at most the greatest number of fields
 pub record IsSmall (h : RequestHead) : Type 0 where
   pub bytes : length (print_request h) ≤ MAX_HEAD
   pub fields : length h.fields ≤ MAX_FIELDS

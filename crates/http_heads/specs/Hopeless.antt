@@ -1,4 +1,4 @@
--- A rest behind which no head can come any more (RFC 9112, sections 2.2, 3 and 5), and one that may still begin a head.
+-- A rest after which no head can come any more (RFC 9112, sections 2.2, 3 and 5), and one that may still begin a head.
 use Rattle.std.specs.Prelude.{◌≡◌, ℕ, ◌<◌, Bool, true, false, List, ◌++◌, length}
 use Rattle.httparse.specs.Grammar.{MayBecomeRequest}
 use Rattle.http_heads.specs.declared.head.TheConstants.{MAX_HEAD}
@@ -14,7 +14,7 @@ pub record MayBegin (rest : List ℕ) : Type 0 where
   pub room : length rest < MAX_HEAD
   pub goes_on : MayBecomeRequest rest
 
--- a rest is told hopeless only where it is, and told to wait only where it may begin a head
+-- a rest is reported as hopeless only if it is, and as waiting only if it may begin a head
 pub record TellsHopeless (rest : List ℕ) (told : Bool) : Type 0 where
   pub hopeless : told ≡ true → IsHopeless rest
   pub waits : told ≡ false → MayBegin rest

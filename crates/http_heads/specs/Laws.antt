@@ -21,7 +21,7 @@ pub record OneCut : Type 0 where
       → IsCut stream heads rest closed → IsCut stream others left shut → (heads ≡ others) × (rest ≡ left) × (closed ≡ shut)
 
 -- Unless the connection closed, what follows a stream is cut as what follows its rest; where it closed, what follows is not cut. So the cut
--- does not hang on the pieces that a stream comes in.
+-- does not depend on the pieces that a stream comes in.
 pub record CutsJoin : Type 0 where
   pub follows : (stream piece : List ℕ) (heads others : List HeadOf) (rest left : List ℕ) (closed : Bool)
       → IsCut stream heads rest false → IsCut (rest ++ piece) others left closed → IsCut (stream ++ piece) (heads ++ others) left closed

@@ -3,7 +3,7 @@ use Rattle.std.specs.Prelude.{◌≡◌, ℕ, List, ◌++◌, length, take, Opti
 use Rattle.http_heads.specs.declared.head.TheConstants.{MAX_HEAD}
 use Rattle.http_heads.specs.Head.{HeadOf, BeginsWithAll, HasNoHead}
 
--- The rest and the piece behind it are these heads, one after another, and then what has no head at its front. Of that the first bytes are
+-- The rest and the piece after it are these heads, one after another, and then what has no head at its front. Of that the first bytes are
 -- kept, as many as a head may have: no head can reach further.
 pub record Splits (rest piece : List ℕ) (heads : List HeadOf) (kept : List ℕ) : Type 0 where
   pub left : List ℕ

@@ -5,7 +5,7 @@ use Rattle.std.specs.Io.KnownBytes.{Consumes, IsAtEnd}
 use Rattle.std.proofs.KnownBytes.{Consumes-nil, Consumes-trans}
 use Rattle.odata_http.specs.Device.{Counts, SourceOf}
 
--- these bytes were read, in so many reads, of which none failed and none told the end
+-- these bytes were read, in `reads` reads, of which none failed and none reported the end
 pub record IsReadTo (old now : SourceOf) (script : List ℕ) (reads : ℕ) : Type 0 where
   pub consumed : Consumes old.left now.left script
   pub reads_are : now.reads ≡ old.reads + reads

@@ -98,7 +98,7 @@ abbrev pub PlaysSchedule : Type 0
 PlaysSchedule = (lines : List (List ℕ)) (old new : Stage) (outcomes : List Outcome) → Plays lines old outcomes new
     → HubRun old.hub (schedule_of outcomes) new.hub
 
--- a script that is played from a stage: the folders behind it, and the sink before and behind it
+-- a script that is played from a stage: the folders after it, and the sink before and after it
 pub record Playing : Type 0 where
   pub script : List ℕ
   pub start : Stage
@@ -209,7 +209,7 @@ IsPlayed p (Err fault) = ⊥
 
 -- ---- a script over a folder
 
--- a replay: the folder's name, the script, what the folders tell and count, and the sink, before and behind it
+-- a replay: the folder's name, the script, what the folders tell and count, and the sink, before and after it
 pub record Replay : Type 0 where
   pub name : List ℕ
   pub script : List ℕ

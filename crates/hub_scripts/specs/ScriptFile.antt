@@ -9,8 +9,8 @@ use Rattle.exit_statuses.specs.declared.fault.TheConstants.{MAX_READS}
 abbrev pub ReadsFew : SourceOf → SourceOf → Type 0
 ReadsFew old new = new.reads ≤ old.reads + MAX_READS
 
--- All bytes that it had left, where it tells them: the end was told once, and no read failed. Or one read failed, and none told the end; or no read of so
--- many did either; or memory ran out before.
+-- All bytes that it had left, where it tells them: the end was reported once, and no read failed. Or one read failed, and none reported the end; or
+-- none of the most reads did either; or memory ran out before.
 abbrev pub IsScriptRead : {A : Type 0} → SourceOf → SourceOf → Result (Vec ℕ A) RunFault → Type 0
 IsScriptRead old new (Ok script) =
     IfSome old.left (λ all. script.items ≡ all) × ReadsFew old new × (new.failed_reads ≡ old.failed_reads) × Counts old.ends new.ends

@@ -1,4 +1,4 @@
--- No file has more rows than bytes, and each fault but want of memory is the file's.
+-- No file has more rows than bytes, and each fault but out of memory is the file's.
 use Rattle.std.proofs.Common.{◌≢◌, ℕ, ◌+◌, ◌*◌, ◌^◌, ◌<◌, ◌≤◌, List, [], ◌∷◌, length, refl, arith}
 use Rattle.std.specs.Prelude.{IfOk, Result, Ok, Err}
 use Rattle.std.proofs.lemmas.Nat.{mul-le}

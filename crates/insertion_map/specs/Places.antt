@@ -9,7 +9,7 @@ pub record KeysOf (K : Type 0) : Type 0 where
   pub keys : List K
   pub room : ℕ
 
--- how they are told apart
+-- how they are distinguished
 abbrev pub keys_of_code : {K : Type 0} → Coded K → Coded (KeysOf K)
 keys_of_code {K} code =
     code_by (List K × ℕ) (coded× (coded_list code) coded_ℕ) (λ of. (of.keys, of.room)) (λ p. record { keys = p.0; room = p.1 }) (λ _. refl)
@@ -26,7 +26,7 @@ key_of_place entries place = lookup (nat_eq place) (map (λ entry. (entry.1, ent
 abbrev pub keys_by_place : {K : Type 0} → List (K × ℕ) → List K
 keys_by_place entries = filter_map (key_of_place entries) (range_with_len 0 (length entries))
 
--- no two keys are equal, and each of so many places is that of one key
+-- no two keys are equal, and each place below the count is that of one key
 pub record IsPlacing {K : Type 0} (eq : K → K → Bool) (entries : List (K × ℕ)) : Type 0 where
   pub unique : IsDistinct eq (keys_of entries)
   pub apart : IsDistinct nat_eq (values_of entries)

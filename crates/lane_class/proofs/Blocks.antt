@@ -4,7 +4,7 @@ use Rattle.std.proofs.Math.Seq.{take-append-add}
 use Rattle.std.proofs.lemmas.List.{take-append-le, take-replicate, drop-replicate}
 use Rattle.lane_class.specs.Classes.{block_from}
 
--- a block with so many bytes of the text left is those bytes, and zeros
+-- a block with fewer than 64 bytes of the text left is those bytes, and zeros
 pub block_at-short : (rest : List ℕ) → length rest ≤ 64 → rest ++ drop (length rest) (replicate 64 0) ≡ block_from rest 0
 block_at-short rest short =
     let whole : 64 ≡ length rest + (64 - length rest) = omega arith in

@@ -36,7 +36,7 @@ with_limits app = with_rule (with_rule app (number_rule (codes "query-seconds"))
 abbrev pub listen_app : App
 listen_app = with_limits (with_numbers (with_flags (with_texts folder_and_port)))
 
--- the number of so many bits that the text is, or this one where it is no such number
+-- the number of `bits` bits that the text is, or `other` if it is no such number
 abbrev pub ReadsNumberOr : ℕ → ℕ → Option Text → ℕ → Type 0
 ReadsNumberOr other bits text n = (o : Option ℕ) × ReadsNumberOfBits bits text o × (n ≡ unwrap_or o other)
 

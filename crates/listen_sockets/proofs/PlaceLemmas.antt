@@ -100,7 +100,7 @@ sockets_stay old new k place =
 
 -- ---- all places in order
 
--- the first so many are changed
+-- the first wires, of the given count, are changed
 abbrev pub first_changed : (Wire → Wire) → ℕ → List Wire → List Wire
 first_changed f zero wires = wires
 first_changed f (suc n) [] = []

@@ -76,12 +76,12 @@ pub untold_of : (o : Option ConnOf) (fault : HubFault) → TellsHopelessAt o (Er
 untold_of None fault e = refl
 untold_of (Some c) fault e = absurd (cc e.1)
 
--- a stream is ended where its rest is told hopeless
+-- a stream is ended if its rest is reported as hopeless
 pub told_ends : (o : Option ConnOf) (told old new : Bool) → TellsHopelessOf o told → told ≡ true → new ≡ true → IsEndedIfHopeless o old new
 told_ends None told old new t e ends = absurd (false≢true (sym t ∙ e))
 told_ends (Some c) told old new t e ends = inl (t.hopeless e, ends)
 
--- and no other socket is touched by that; where it is not told so, none is
+-- and no other socket is touched by that; if it is not reported so, none is
 pub told_end : (now place : ℕ) (o : Option ConnOf) (told : Bool) (old new : List Wire) → TellsHopelessOf o told → told ≡ true
     → ChangesPeer place (after_end now) old new → IsEndIfHopeless now place o old new
 told_end now place None told old new t e ends = absurd (false≢true (sym t ∙ e))

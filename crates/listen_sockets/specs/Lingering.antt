@@ -20,8 +20,8 @@ held_at held at = slice_index_or held at None
 abbrev pub AreInTime : List (Option LingeringPeer) → Type 0
 AreInTime held = (at : ℕ) (peer : LingeringPeer) → held_at held at ≡ Some peer → (0 < peer.seconds) × (peer.seconds ≤ most_seconds)
 
--- ---- so many seconds later
--- so many fewer are left of its time, and where that is over it is let go
+-- ---- `seconds` seconds later
+-- that many fewer are left of its time, and if that is over it is let go
 abbrev pub shorter : ℕ → LingeringPeer → Option LingeringPeer
 shorter seconds held = if nat_lt seconds held.seconds then Some (record held { seconds = held.seconds - seconds }) else None
 

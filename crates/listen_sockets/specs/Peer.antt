@@ -53,7 +53,7 @@ times_after_visit now waits peer =
 abbrev pub after_visit : ℕ → Bool → Peer → Peer
 after_visit now waits peer = record peer { awake = true; has_read = false; written = 0; times = times_after_visit now waits peer }
 
--- so many microseconds were worked for it
+-- `micros` microseconds were worked for it
 abbrev pub after_charge : ℕ → Peer → Peer
 after_charge micros peer = record peer { times = times_after_charge micros peer.times }
 

@@ -18,7 +18,7 @@ use Rattle.listen_sockets.specs.Slow.{due_where}
 use Rattle.listen_sockets.specs.Peer.{after_end, after_visit}
 use Rattle.listen_sockets.specs.Sockets.{ChangesPeer, free_wire, is_awake_at, is_ended_at, times_at}
 
--- so many places over some tables: the hub's are free, nothing became of any, and none has a socket
+-- `places` places over some tables: the hub's are free, nothing became of any, and none has a socket
 pub record AreFree (catalog : CatalogOf) (places : ℕ) (hub : Hub) (slots : List Slot) (wires : List Wire) : Type 0 where
   pub stands : Models hub (record { catalog = catalog; places = replicate places None })
   pub slots_are : slots ≡ replicate places free_slot
@@ -50,7 +50,7 @@ abbrev pub IsDueAt : TimeLimits → Bool → ℕ → ℕ → Hub → List Wire �
 IsDueAt limits crowded now place hub wires due =
     (h : HubOf) → Models hub h → due ≡ due_where limits (seen_at crowded (conn_at h place) wires place) now (times_at wires place)
 
--- whether the rest of the connection at a place can begin no head any more; where there is none, it is not told so
+-- whether the rest of the connection at a place can begin no head any more; if there is none, it is not reported so
 abbrev pub TellsHopelessOf : Option ConnOf → Bool → Type 0
 TellsHopelessOf None told = told ≡ false
 TellsHopelessOf (Some c) told = TellsHopeless c.rest told

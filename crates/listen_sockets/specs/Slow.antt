@@ -7,7 +7,7 @@ use Rattle.listen_sockets.specs.declared.slow.Seen.{Seen}
 use Rattle.listen_sockets.specs.declared.slow.Taking.{Taking}
 use Rattle.listen_sockets.specs.declared.slow.Times.{Times}
 
--- so many seconds passed since a time
+-- `seconds` seconds passed since a time
 abbrev pub has_passed : ℕ → ℕ → ℕ → Bool
 has_passed seconds since now = nat_le seconds (now - since)
 

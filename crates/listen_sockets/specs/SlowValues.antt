@@ -8,7 +8,7 @@ use Rattle.listen_sockets.specs.declared.slow.Taking.{Taking}
 use Rattle.listen_sockets.specs.declared.slow.Times.{Times}
 use Rattle.listen_sockets.specs.Slow.{due_of, is_heavy, times_after_write}
 
--- 30 seconds for a head, 60 without a step, so many for a query, and an hour for a reply
+-- 30 seconds for a head, 60 without a step, `query` for a query, and an hour for a reply
 abbrev pub limits_of : ℕ → TimeLimits
 limits_of query = record { head = 30; idle = 60; query = query; reply = 3_600 }
 
@@ -16,11 +16,11 @@ limits_of query = record { head = 30; idle = 60; query = query; reply = 3_600 }
 abbrev pub at_work : Bool → Seen
 at_work crowded = record { crowded = crowded; awake = true; waits = true }
 
--- it got on in second 1,000, when so many microseconds had been worked for it
+-- it got on in second 1,000, when `micros` microseconds had been worked for it
 abbrev pub spent : ℕ → Times
 spent micros = record { active = 1_000; head = None; taking = None; spent = micros }
 
--- a reply of which the first bytes were taken in one second, and so many in the minute that began in another
+-- a reply of which the first bytes were taken in one second, and `bytes` bytes in the minute that began in another
 abbrev pub taking_of : ℕ → ℕ → ℕ → Times
 taking_of began minute bytes = record (spent 0) { taking = Some (record { began = began; minute = minute; bytes = bytes; little = false }) }
 

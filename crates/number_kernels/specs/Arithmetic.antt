@@ -37,7 +37,7 @@ pub record HasNulls (rows : ℕ) (left right : Operand) (nulls : List Bool) : Ty
   pub each : (row : ℕ) → row < rows → slice_index_or nulls row true ≡ (null_at left row || null_at right row)
   pub long : length nulls ≡ rows
 
--- the joined numbers of so many rows, where they fit
+-- the joined numbers of `rows` rows, if they fit
 pub record HasValues (rows : ℕ) (o : ExactOperator) (left right : Operand) (values : List ℤ) : Type 0 where
   pub each : AreExact o left right values
   pub long : length values ≡ rows

@@ -30,7 +30,7 @@ all_more {S} {R} {T} {heads} {head} {reply} {a} {b} {d} so_far is took = record 
   taken = takes_snoc T a so_far.replies b reply d so_far.taken took;
 }
 
--- the heads before a place, the one at it and those behind it
+-- the heads before a place, the one at it and those after it
 pub heads_at : (heads : List HeadOf) (k : ℕ) (head : HeadOf) → k < length heads → head ≡ get_or heads k head
     → heads ≡ take k heads ++ head ∷ drop (k + 1) heads
 heads_at heads k head within at =

@@ -251,7 +251,7 @@ select_there catalog seen key_lookup found select schema may same at selected of
     (sym (of ∙ ap (λ (t : TableOf). t.schema) here)) inside in
     subst (λ (s : Option (List ℕ)). IfSome s (λ places. All (λ (place : ℕ). place < length schema.columns) places)) (sym selected) there
 
--- the same of the numbers as they are lent, for so many values
+-- the same of the numbers as they are lent, for `values` values
 pub select_within : (select : Option (Bor (List ℕ))) (columns values : ℕ) → values ≡ columns
     → IfSome (option_map (λ places. places.now) select) (λ places. All (λ place. place < columns) places)
     → IfSome select (λ places. All (λ place. place < values) places.now)

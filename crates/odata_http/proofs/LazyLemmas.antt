@@ -1,4 +1,4 @@
--- An exchange call by call, before its reply is laid down and after.
+-- An exchange call by call, before its reply is written and after.
 use Rattle.std.proofs.Common.{◌≡◌, ◌<◌, ◌+◌, ◌-◌, ℕ, List, Ok, sym, subst, arith}
 use Rattle.table_store.specs.Catalog.{CatalogOf}
 use Rattle.odata_request.specs.Request.{RequestOf, refused, rows, service}
@@ -61,7 +61,7 @@ may_work_lazily catalog lazy (done d) = waiting_may catalog lazy.exchange.work d
 may_work_lazily catalog lazy (failed f) = failed_may catalog lazy.exchange.work f
 may_work_lazily catalog lazy (answers head left a) = work_may catalog a.request left lazy.exchange.work a.work
 
--- ---- a reply that is laid down at the last call
+-- ---- a reply that is written at the last call
 
 pub lays_none : (catalog : CatalogOf) (head : HeadOf) (left : ℕ) (mid : Exchange) (step : Step) → step ≡ More → GoesUnlaid catalog head left mid (Ok step)
     → GoesOn catalog head left mid (Ok More)

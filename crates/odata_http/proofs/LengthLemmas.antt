@@ -1,4 +1,4 @@
--- The number of calls of a head hangs on what it asks for.
+-- The number of calls of a head depends on what it asks for.
 use Rattle.std.proofs.Common.{◌≡◌, ◌<◌, ◌≤◌, ℕ, zero, suc, List, [], ◌∷◌, Option, Some, None, arith, length, map, max, refl, sym, ap, subst, ◌∙◌}
 use Rattle.std.specs.Prelude.{slice_get}
 use Rattle.std.proofs.Math.Nat.{le-max_left, le-max_right, max-eq_right}

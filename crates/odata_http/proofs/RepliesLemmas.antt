@@ -100,12 +100,12 @@ hopeless_end R rests s p c r x never = record {
 
 -- ---- parts of the replies
 
--- nothing is kept behind a head that closes
+-- nothing is kept after a head that closes
 pub cut_shut : (s : List ℕ) (heads : List HeadOf) (rest : List ℕ) → IsCut s heads rest true → rest ≡ []
 cut_shut s [] rest a = absurd (false≢true (sym a.1))
 cut_shut s (h ∷ hs) rest a = MatchBool_elim (closes h) (λ x. x.1) (λ x. cut_shut a.0 hs rest x) a.2
 
--- behind a reply that closes there is none
+-- after a reply that closes there is none
 pub closed_replies : {R : HeadOf → List ℕ → Type 0} {s c r : List ℕ} → IsCertain R s c r true → AreReplies R s c true
 closed_replies {R} {s} {c} {r} x = record {
   certain = c;
@@ -114,7 +114,7 @@ closed_replies {R} {s} {c} {r} x = record {
   all_is = sym (append-nil c) ∙ ap (λ rest. c ++ last_reply rest) (sym (cut_shut s x.heads r x.cut));
 }
 
--- the end of the stream behind what is certain
+-- the end of the stream after what is certain
 pub ended_replies : {R : HeadOf → List ℕ → Type 0} {s c r : List ℕ} → IsCertain R s c r false → AreReplies R s (c ++ last_reply r) false
 ended_replies {R} {s} {c} {r} x = record { certain = c; rest = r; is = x; all_is = refl }
 

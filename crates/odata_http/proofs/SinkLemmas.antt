@@ -74,7 +74,7 @@ one_behind : (xs : List HeadOf) (x : HeadOf) (ys : List HeadOf) → xs ++ x ∷ 
 one_behind [] x ys = refl
 one_behind (z ∷ xs) x ys = ap (λ (t : List HeadOf). z ∷ t) (one_behind xs x ys)
 
--- a front of the next reply behind the replies so far
+-- a front of the next reply after the replies so far
 front_of_next : {S : Type 0} {R : HeadOf → List ℕ → Type 0} {T : S → List ℕ → Result (Unit {0}) AnswerFault → S → Type 0} {answered : List HeadOf}
     {head : HeadOf} {reply : List ℕ} {a b : S} (stream rest : List ℕ) (closed : Bool) (behind : List HeadOf) (n : ℕ)
     → IsCut stream (answered ++ head ∷ behind) rest closed → (all : AnswersAll R T answered a b) → R head reply

@@ -160,7 +160,7 @@ left_few catalog (rows asked) left (Replied bytes) h = absurd h
 left_few catalog (rows asked) left (Waits bytes) h = absurd h
 left_few catalog (rows asked) left Failed h = absurd h
 
--- an exchange stands for a head, and no more calls than so many are left
+-- an exchange stands for a head, and at most `most` calls are left
 pub record IsUnderWay (catalog : CatalogOf) (head : HeadOf) (most : ℕ) (exchange : Exchange) : Type 0 where
   pub left : ℕ
   pub few : left ≤ most

@@ -86,7 +86,7 @@ pub record FailsOnRest {S : Type 0} (T : S → List ℕ → Result ⊤ AnswerFau
   pub some : 0 < length rest
   pub stop : LacksMemory fault old new ⊎ T old (last_reply rest) (Err fault) new
 
--- how the end of the stream behind this rest was answered
+-- how the end of the stream after this rest was answered
 abbrev pub IsRestAnswered : {S : Type 0} → (S → List ℕ → Result ⊤ AnswerFault → S → Type 0) → List ℕ → S → S → Result Bool AnswerFault → Type 0
 IsRestAnswered T [] old new (Ok answered) = (answered ≡ false) × (new ≡ old)
 IsRestAnswered T (b ∷ rest) old new (Ok answered) = (answered ≡ true) × T old (last_reply (b ∷ rest)) (Ok tt) new

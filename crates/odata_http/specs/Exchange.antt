@@ -29,7 +29,7 @@ use Rattle.odata_http.specs.Reply.{HaveSizesIn, IsReply}
 abbrev pub query_length : TypedOf → TableOf → ℕ
 query_length query table = max 1 (length (needed_blocks query table.rows))
 
--- its run takes so many
+-- its run takes `calls` calls
 pub record TakesRunCalls (catalog : CatalogOf) (asked : RowsRequestOf) (calls : ℕ) : Type 0 where
   pub table : TableOf
   pub table_is : slice_get catalog.tables asked.table ≡ Some table
@@ -56,7 +56,7 @@ pub record HeadTakes (catalog : CatalogOf) (head : HeadOf) (calls : ℕ) : Type 
 abbrev pub MeansOn : TableOf → PlanOf → TypedOf → Type 0
 MeansOn table plan query = option_map (answer_of query.counting) (plan_answer plan table) ≡ query_meaning table.schema query table.rows
 
--- a run on its table of a plan that means a query without a key, so many calls before its end, and the sizes of some first rows of its answer
+-- a run on its table of a plan that means a query without a key, `left` calls before its end, and the sizes of some first rows of its answer
 pub record IsQueryRun (catalog : CatalogOf) (asked : RowsRequestOf) (left : ℕ) (query_run : QueryRun) : Type 0 where
   pub unkeyed : asked.query.key ≡ None
   pub table : TableOf
@@ -83,7 +83,7 @@ pub record IsKeyLookup (catalog : CatalogOf) (asked : RowsRequestOf) (key_lookup
   pub unapplied : asked.query.apply ≡ []
   pub select_is : optional_numbers key_lookup.select ≡ asked.query.select
 
--- what is left to be done for a request, so many calls before its end
+-- what is left to be done for a request, `left` calls before its end
 abbrev pub IsWork : CatalogOf → RequestOf → ℕ → Work → Type 0
 IsWork catalog (refused code) left (Refuse other) = (other ≡ code) × (left ≡ 1)
 IsWork catalog service left ListTables = left ≡ 1
@@ -91,12 +91,12 @@ IsWork catalog (rows asked) left (Find key_lookup) = IsKeyLookup catalog asked k
 IsWork catalog (rows asked) left (Read query_run) = IsQueryRun catalog asked left query_run
 IsWork catalog request left work = ⊥
 
--- no more calls than so many are left of the work
+-- at most this many calls are left of the work
 abbrev pub most_calls : Work → ℕ
 most_calls (Read query_run) = query_run.most
 most_calls work = 1
 
--- The exchange stands for a head under a catalog, so many calls before its reply.
+-- The exchange stands for a head under a catalog, `left` calls before its reply.
 pub record Answers (catalog : CatalogOf) (head : HeadOf) (left : ℕ) (exchange : Exchange) : Type 0 where
   pub method_is : exchange.method ≡ method_of head.method
   pub closes_is : exchange.closes ≡ closes head
@@ -126,7 +126,7 @@ pub data MayGoOn (catalog : CatalogOf) (exchange : Exchange) : Type 0 where
   failed : HasFailed exchange → MayGoOn catalog exchange
   answers : (head : HeadOf) (left : ℕ) → Answers catalog head left exchange → MayGoOn catalog exchange
 
--- What a call makes of an exchange that was so many calls before its reply: Done with the reply to its head at the last of them, and More
+-- What a call makes of an exchange that was `left` calls before its reply: Done with the reply to its head at the last of them, and More
 -- before it.
 abbrev pub GoesOn : CatalogOf → HeadOf → ℕ → Exchange → Result Step AllocError → Type 0
 GoesOn catalog head left exchange (Ok More) = (1 < left) × Answers catalog head (left - 1) exchange

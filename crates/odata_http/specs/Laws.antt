@@ -26,7 +26,7 @@ pub record OneReading (R : HeadOf → List ℕ → Type 0) : Type 0 where
   pub certain : (s c d r q : List ℕ) (a b : Bool) → IsCertain R s c r a → IsCertain R s d q b → (c ≡ d) × (r ≡ q) × (a ≡ b)
   pub replies : (s c d : List ℕ) (a b : Bool) → AreReplies R s c a → AreReplies R s d b → (c ≡ d) × (a ≡ b)
 
--- Unless s closed, the replies of s and p are those that are certain behind s, and then those of its rest and p; where it closed, they are
+-- Unless s closed, the replies of s and p are those that are certain after s, and then those of its rest and p; where it closed, they are
 -- those of s.
 pub record Joins (R : HeadOf → List ℕ → Type 0) : Type 0 where
   pub certain : (s p c d r q : List ℕ) (b : Bool) → IsCertain R s c r false → IsCertain R (r ++ p) d q b → IsCertain R (s ++ p) (c ++ d) q b

@@ -1,4 +1,4 @@
--- Exchanges whose replies are laid down as they are taken.
+-- Exchanges whose replies are written as they are taken.
 use Rattle.std.specs.Prelude.{◌≡◌, ◌<◌, ◌-◌, ⊤, ℕ, List, Result, Ok, Err}
 use Rattle.std.specs.declared.alloc.AllocError.{AllocError}
 use Rattle.table_store.specs.Catalog.{CatalogOf}
@@ -12,12 +12,12 @@ use Rattle.odata_http.specs.declared.work.Work.TheVariants.{Waits}
 use Rattle.odata_http.specs.Exchange.{Answers, HasFailed, HeadTakes}
 use Rattle.odata_http.specs.Reply.{IsReply}
 
--- the work is done, and this is the reply, which is not laid down yet
+-- the work is done, and this is the reply, which is not written yet
 abbrev pub IsWaiting : Work → List ℕ → Type 0
 IsWaiting (Waits bytes) reply = bytes ≡ reply
 IsWaiting work reply = ⊥
 
--- What a call makes of an exchange before its reply is laid down: as `GoesOn` says.
+-- What a call makes of an exchange before its reply is written: as `GoesOn` says.
 abbrev pub GoesUnlaid : CatalogOf → HeadOf → ℕ → Exchange → Result Step AllocError → Type 0
 GoesUnlaid catalog head left exchange (Ok More) = (1 < left) × Answers catalog head (left - 1) exchange
 GoesUnlaid catalog head left exchange (Ok Done) = (left ≡ 1) × (reply : List ℕ) × IsReply catalog head reply × IsWaiting exchange.work reply
@@ -45,7 +45,7 @@ pub data MayGoOnLazily (catalog : CatalogOf) (lazy : LazyExchange) : Type 0 wher
   failed : HasLazilyFailed lazy → MayGoOnLazily catalog lazy
   answers : (head : HeadOf) (left : ℕ) → AnswersLazily catalog head left lazy → MayGoOnLazily catalog lazy
 
--- what a call makes of one that was so many calls before its reply
+-- what a call makes of one that was `left` calls before its reply
 abbrev pub GoesOnLazily : CatalogOf → HeadOf → ℕ → LazyExchange → Result Step AllocError → Type 0
 GoesOnLazily catalog head left lazy result = GoesUnlaid catalog head left lazy.exchange result
 

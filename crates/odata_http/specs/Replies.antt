@@ -11,7 +11,7 @@ abbrev pub last_reply : List ℕ → List ℕ
 last_reply [] = []
 last_reply (b ∷ rest) = rest_reply
 
--- the replies that are certain behind these bytes, whatever follows; the rest; and whether the connection closed
+-- the replies that are certain after these bytes, whatever follows; the rest; and whether the connection closed
 pub record IsCertain (R : HeadOf → List ℕ → Type 0) (stream certain rest : List ℕ) (closed : Bool) : Type 0 where
   pub heads : List HeadOf
   pub replies : List (List ℕ)

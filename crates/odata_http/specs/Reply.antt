@@ -52,7 +52,7 @@ first_lines status media =
     ++ field_line (codes "Content-Type") (media_type media)
     ++ field_line (codes "OData-Version") (codes "4.0")
 
--- the lines before a body of so many bytes
+-- the lines before a body of `length` bytes
 abbrev pub reply_lines : ℕ → Media → ℕ → Bool → List ℕ
 reply_lines status media size closes =
     first_lines status media
@@ -139,7 +139,7 @@ RespondsWith catalog (rows asked) response = RespondsWithRows catalog asked resp
 abbrev pub reply_of : Option Method → ResponseOf → Bool → List ℕ
 reply_of method response closing = reply_with method response.status response.media response.body closing
 
--- The bytes are the reply to the head: a response to what it asks for. Whether the connection closes behind it hangs on the head alone.
+-- The bytes are the reply to the head: a response to what it asks for. Whether the connection closes after it depends on the head alone.
 pub record IsReply (catalog : CatalogOf) (head : HeadOf) (reply : List ℕ) : Type 0 where
   pub request : RequestOf
   pub asks : AsksFor catalog (head_fault head) head.target request

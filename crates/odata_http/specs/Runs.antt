@@ -27,7 +27,7 @@ pub record HasMoved (c : Course) (read wrote : List ℕ) : Type 0 where
   pub lost : Consumes c.source.left c.source_after.left read
   pub gained : Appends c.sink.taken c.sink_after.taken wrote
 
--- the end of the stream was told, or it was not
+-- the end of the stream was reported, or it was not
 abbrev pub HasEnded : Course → Bool → Type 0
 HasEnded c ended = MatchBool ended
     ((c.source_after.ends ≡ c.source.ends + 1) × IsAtEnd c.source_after.left)
@@ -42,7 +42,7 @@ pub record Finishes (R : HeadOf → List ℕ → Type 0) (c : Course) : Type 0 w
   pub replies : AreReplies R read wrote closed
   pub over : MatchBool closed (HasEnded c false) (HasEnded c true)
 
--- No end of the stream was read and no reply closed; what was written is the replies that are certain behind what was read.
+-- No end of the stream was read and no reply closed; what was written is the replies that are certain after what was read.
 pub record StopsReading (R : HeadOf → List ℕ → Type 0) (c : Course) : Type 0 where
   pub read : List ℕ
   pub wrote : List ℕ
@@ -74,7 +74,7 @@ pub record AnswersWhole (R : HeadOf → List ℕ → Type 0) (c : Course) (strea
   pub replies : AreReplies R stream wrote closed
   pub gained : Appends c.sink.taken c.sink_after.taken wrote
 
--- How a run of at most so many reads ended. `Read` and `Write` come exactly where a read or a write failed.
+-- How a run of at most `limit` reads ended. `Read` and `Write` come exactly where a read or a write failed.
 pub record IsRun (R : HeadOf → List ℕ → Type 0) (limit : ℕ) (c : Course) (r : Result ⊤ RunFault) : Type 0 where
   pub whole : OnOk r ((stream : List ℕ) → c.source.left ≡ Some stream → AnswersWhole R c stream)
   pub ok : OnOk r (Finishes R c)

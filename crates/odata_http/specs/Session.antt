@@ -28,7 +28,7 @@ IsLiveOr s (Err Failed) = s.failed ≡ true
 IsLiveOr s (Err Ended) = (s.failed ≡ false) × (s.ended ≡ true)
 IsLiveOr s (Err NoMemory) = ⊥
 
--- the replies that are certain behind the rest and the piece were added, and the rest of that is kept
+-- the replies that are certain after the rest and the piece were added, and the rest of that is kept
 pub record TakesIn (R : HeadOf → List ℕ → Type 0) (piece : List ℕ) (old new : SessionOf) : Type 0 where
   pub certain : List ℕ
   pub rest : List ℕ

@@ -1,4 +1,4 @@
--- A connection's answers hang on its own calls alone.
+-- A connection's answers depend on its own calls alone.
 use Rattle.std.proofs.Common.{◌≡◌, ℕ, Bool, true, false, List, [], ◌∷◌, ◌++◌, Option, Some, None, refl, sym, ap, subst, ◌∙◌}
 use Rattle.std.specs.Prelude.{nat_le}
 use Rattle.table_store.specs.Catalog.{CatalogOf}

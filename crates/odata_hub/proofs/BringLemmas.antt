@@ -47,7 +47,7 @@ replies_now c m d o os f going lt le none one memory r x = record {
 abbrev one_less : FlightOf → FlightOf
 one_less f = record { asked = f.asked; left = f.left - 1 }
 
--- it comes behind a turn
+-- it comes after a turn
 replies_then : (c m d : ConnOf) (o : Own) (os : List Own) (f : FlightOf) → c.failed ≡ false → 1 < f.left → given_by o.answer ≡ []
     → turns_by o.call (turns_in os) ≡ turns_in os + 1 → m ≡ record c { flight = Some (one_less f) } → RepliesIn m d os (one_less f)
     → RepliesIn c d (o ∷ os) f
@@ -65,7 +65,7 @@ replies_then c m d o os f going lt none one is x =
           (ap (λ (k : ConnOf). k.waiting) is ∙ sym (append-nil c.waiting)) x.moment;
     }
 
--- it comes behind a call that is no turn
+-- it comes after a call that is no turn
 replies_after : (c m d : ConnOf) (o : Own) (os : List Own) (f : FlightOf) (came : List Asked) → Adds c m (given_by o.answer) []
     → m.waiting ≡ c.waiting ++ came → turns_by o.call (turns_in os) ≡ turns_in os → RepliesIn m d os f → RepliesIn c d (o ∷ os) f
 replies_after c m d o os f came adds waits none x = record {

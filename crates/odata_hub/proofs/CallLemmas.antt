@@ -18,7 +18,7 @@ pub record Adds (c d : ConnOf) (taken added : List ℕ) : Type 0 where
   pub output : taken ++ d.output ≡ c.output ++ added
   pub going : d.failed ≡ false
 
--- these heads wait, and others behind them
+-- these heads wait, and others after them
 pub record Waits (heads : List Asked) (d : ConnOf) : Type 0 where
   pub came : List Asked
   pub waits : d.waiting ≡ heads ++ came
@@ -175,7 +175,7 @@ adds_call c d call answer going is h = elim (quiet_or_turn c d call answer going
       let P : List ℕ → Type 0 = λ g. Adds c d g a.0 in (a.0, subst P (sym t.none) a.1)
 ]
 
--- whatever is called, bytes are added behind the output
+-- whatever is called, bytes are added after the output
 pub adds_run : (c d : ConnOf) (os : List Own) → c.failed ≡ false → HasMemory os → Run c os d → (added : List ℕ) × Adds c d (taken_of os) added
 adds_run c d [] going m r = (
   [],

@@ -62,7 +62,7 @@ Keeps-fresh cuts = record {
 pub Keeps-same : (c : ConnOf) (s : List Came) (e : Bool) (t : List ℕ) → Keeps c s e t → Keeps c (s ++ []) (e || false) (t ++ [])
 Keeps-same c s e t k = rw (append-nil s, or-false e, append-nil t) k
 
--- want of memory
+-- out of memory
 pub Keeps-failed : (c d : ConnOf) (s : List Came) (e : Bool) (t : List ℕ) → IsFailed c d → Keeps c s e t → Keeps d (s ++ []) (e || false) (t ++ [])
 Keeps-failed c d s e t f k =
     let failed : Keeps d s e t = record {
@@ -125,7 +125,7 @@ Keeps-piece_open joins rest waiting flight output catalog bytes d s t f k =
     } in
     rw f.new_is new
 
--- a piece behind a closing head changes nothing
+-- a piece after a closing head changes nothing
 pub Keeps-piece_closed : CutsJoin → (rest : List ℕ) (waiting : List Asked) (flight : Option FlightOf) (output : List ℕ) (piece : Came)
     (s : List Came) (t : List ℕ) → Keeps (conn rest waiting flight output true false false) s false t
     → Keeps (conn rest waiting flight output true false false) (s ++ piece ∷ []) false (t ++ [])

@@ -120,7 +120,7 @@ idle_empty None [] true (b ∷ rest) e = absurd (cc e)
 idle_empty None [] true [] e = record { flight_is = refl; waiting_is = refl; rest_is = λ _. refl }
 idle_empty None [] false rest e = record { flight_is = refl; waiting_is = refl; rest_is = λ e. absurd (cc e) }
 
--- what stands behind the replies to the heads is the reply to the rest, if the stream ended
+-- what stands after the replies to the heads is the reply to the rest, if the stream ended
 behind_due : (ended : Bool) (others : List Asked) (rest left behind : List ℕ) → IsBehind ended others left behind
     → (ended ≡ true → rest ≡ []) → (ended ≡ true → IsLeft rest left behind) → behind ≡ (if ended then last_reply left else [])
 behind_due false others rest left behind (inl none) empty is = none

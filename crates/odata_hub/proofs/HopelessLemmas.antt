@@ -20,7 +20,7 @@ use Rattle.odata_hub.proofs.RunLemmas.{Keeps-own}
 use Rattle.odata_hub.proofs.OverLemmas.{none_left}
 use Rattle.odata_hub.proofs.CallLemmas.{adds_call}
 
--- what the connection tells is told of the rest of the one that it stands for
+-- what the connection reports is true of the rest of the one that it stands for
 pub told_by_rest : (connection : Connection) (told : Bool) → TellsHopeless connection.splitter told → (c : ConnOf) → ConnStandsFor connection c
     → TellsHopeless c.rest told
 told_by_rest connection told t c s =

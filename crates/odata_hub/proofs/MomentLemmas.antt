@@ -4,7 +4,7 @@ use Rattle.odata_hub.specs.Streams.{Asked}
 use Rattle.odata_hub.specs.Connections.{ConnOf, FlightOf, Own, Run, given_by, taken_of, HasMemory, turns_by, turns_in}
 use Rattle.odata_hub.proofs.CallLemmas.{Adds, Waits, adds_both}
 
--- A moment of a run from one connection to another, behind so many turns: what was taken and added before it, what is in flight and which heads wait
+-- A moment of a run from one connection to another, after some turns: what was taken and added before it, what is in flight and which heads wait
 -- then, and the calls that follow.
 pub record Moment (c d : ConnOf) (os : List Own) (turns : ℕ) (heads : List Asked) (flight : Option FlightOf) (added : List ℕ) : Type 0 where
   pub mid : ConnOf

@@ -30,7 +30,7 @@ over_parts rest (a ∷ waiting) None output true ended false e = absurd (cc e)
 over_parts rest [] None (b ∷ output) true ended false e = absurd (cc e)
 over_parts rest [] None [] true ended false e = record { going = refl; closed_is = refl; flight_is = refl; waiting_is = refl; output_is = refl }
 
--- behind a closing head nothing is kept of a stream
+-- after a closing head nothing is kept of a stream
 left_by : (b : Bool) (more : List ℕ) (heads : List HeadOf) (rest : List ℕ) → (IsCut more heads rest true → rest ≡ [])
     → MatchBool b ((heads ≡ []) × (rest ≡ []) × (true ≡ true)) (IsCut more heads rest true) → rest ≡ []
 left_by true more heads rest later h = h.1

@@ -15,7 +15,7 @@ use Rattle.odata_hub.proofs.StepLemmas.{piece_fed, steps_on}
 pub next_small : (heads rest : List HeadOf) (head : HeadOf) → heads ≡ head ∷ rest → AreSmall heads → (length head.target ≤ 8_192) × AreSmall rest
 next_small heads rest head e small = subst AreSmall e small
 
--- it waits behind the others
+-- it waits after the others
 pub waits_next : (catalog : CatalogOf) (heads rest : List HeadOf) (head : HeadOf) (waiting more all : List Asked) → heads ≡ head ∷ rest
     → waiting ++ asked catalog heads ≡ all → more ≡ waiting ++ record { catalog = catalog; head = head } ∷ []
     → more ++ asked catalog rest ≡ all

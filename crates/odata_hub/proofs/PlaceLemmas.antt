@@ -210,7 +210,7 @@ some_is : (o : Option Connection) → is_some o ≡ true → (c : Connection) ×
 some_is None e = absurd (cc e)
 some_is (Some c) e = (c, refl)
 
--- a place that is told to be free, or not, by what stands there
+-- a place that is reported as free, or not, by what is there
 pub not_freed_by : (catalog : CatalogOf) (held : List (Option Connection)) (k : ℕ) (r : Option Connection) (free : Bool) → k < length held
     → is_some (get_or held k r) ≡ not free → free ≡ true → IsPlacesStep catalog held (Drop k) (Refused NoSuchConnection) held
 not_freed_by catalog held k r free lt is e =

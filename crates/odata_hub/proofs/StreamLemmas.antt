@@ -22,7 +22,7 @@ bytes_of-append s t = flat_map-append (λ (p : Came). p.bytes) s t
 pub bytes_of-more : (s : List Came) (p : Came) → bytes_of (s ++ p ∷ []) ≡ bytes_of s ++ p.bytes
 bytes_of-more s p = bytes_of-append s (p ∷ []) ∙ ap (λ (b : List ℕ). bytes_of s ++ b) (append-nil p.bytes)
 
--- the heads of a piece, and those behind it
+-- the heads of a piece, and those after it
 pub heads_of-behind : (c : CatalogOf) (hs : List HeadOf) (later all : List Asked) → all ≡ asked c hs ++ later → heads_of all ≡ hs ++ heads_of later
 heads_of-behind c hs later all e =
     ap heads_of e ∙ heads_of-append (asked c hs) later ∙ ap (λ (x : List HeadOf). x ++ heads_of later) (heads_of-asked c hs)
@@ -126,7 +126,7 @@ have_behind c before cut (p ∷ s) all u x =
     let later : HaveCatalog c x.1 = have_behind c (before ++ p.bytes) (cut ++ x.0) s x.1 u.1 x.4 in
     subst P (sym x.2) (have-append c (asked p.catalog x.0) x.1 (have-asked c p.catalog x.0 u.0) later)
 
--- the heads of the pieces before, and of those behind
+-- the heads of the pieces before, and of those after
 pub record Halves (before : List ℕ) (cut : List HeadOf) (s t : List Came) (all : List Asked) : Type 0 where
   pub early : List Asked
   pub late : List Asked

@@ -2,7 +2,7 @@
 use Rattle.std.proofs.Common.{◌≡◌, ◌≤◌, ℕ, List, ◌++◌, length, take, drop, min, ap, arith, ◌∙◌}
 use Rattle.std.proofs.lemmas.List.{drop_at, drop_min, length-take-le, take_at, take_min}
 
--- Of what waits, as much as there is room for came into the front, and what is behind it is as before. So much less waits.
+-- Of what waits, as much as there is room for came into the front, and what is after it is as before. So much less waits.
 pub taken : (waiting before after : List ℕ) (count : ℕ) → count ≡ min (length waiting) (length before) → after ≡ take count waiting ++ drop count before
     → (take count after ≡ take (length before) waiting) × (drop count after ≡ drop count before) × (drop count waiting ≡ drop (length before) waiting)
 taken waiting before after count is same =

@@ -10,7 +10,7 @@ use Rattle.odata_hub.specs.Schedules.{CallsOn, HubOf, conn_at, hub_with}
 use Rattle.odata_hub.specs.Stands.{AreHub, ArePlacesTook, ConnStandsFor, IsConnTook, LendsAt, TellsTook, conn_of, took_answer}
 use Rattle.odata_hub.proofs.PlaceLemmas.{free_at, set_free, taken_at, zip_set}
 
--- where the output alone has changed, by so many bytes
+-- the output alone has changed, by some bytes
 pub took_by : (old new : Connection) (count : ℕ) → new ≡ record old { output = drop count old.output } → IsConnTook old count new
 took_by old new count e c s =
     let next : ConnOf = record (conn_of old s.flight) { output = drop count old.output } in

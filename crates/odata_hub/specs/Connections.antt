@@ -101,7 +101,7 @@ answer_to c End = if c.failed then Refused Failed else (if c.ended then Refused 
 answer_to c Turn = if c.failed then Refused Failed else Went (if works c then Worked else Idle)
 answer_to c (Take room) = Gave (take room c.output)
 
--- the connection after it; a refused call changes nothing, nor does a piece behind a closing head
+-- the connection after it; a refused call changes nothing, nor does a piece after a closing head
 abbrev pub IsAfter : ConnOf → Call → ConnOf → Type 0
 IsAfter c (Piece catalog bytes) new =
     MatchBool c.failed (new ≡ c) (MatchBool c.ended (new ≡ c) (MatchBool c.closed (new ≡ c) (IsFed c catalog bytes new)))
@@ -116,8 +116,8 @@ MayWant c End = ⊥
 MayWant c Turn = (c.failed ≡ false) × (works c ≡ true)
 MayWant c (Take room) = ⊥
 
--- Want of memory marks a connection failed. Its output is kept, and whether a closing head was cut off and the stream ended; the rest, the heads that
--- wait and the exchange in flight are given up.
+-- A connection is marked as failed when memory ran out. Its output is kept, and whether a closing head was cut off and the stream ended; the rest, the
+-- heads that wait and the exchange in flight are given up.
 pub record IsFailed (old new : ConnOf) : Type 0 where
   pub failed : new.failed ≡ true
   pub output : new.output ≡ old.output
@@ -201,7 +201,7 @@ abbrev pub calls_of : List Own → List Call
 calls_of [] = []
 calls_of (o ∷ os) = o.call ∷ calls_of os
 
--- none of the answers is want of memory
+-- none of the answers is out of memory
 abbrev pub HasMemory : List Own → Type 0
 HasMemory [] = ⊤
 HasMemory (o ∷ os) = (o.answer ≢ Refused NoMemory) × HasMemory os

@@ -10,7 +10,7 @@ pub record FlightHeld : Type 0 where
   pub catalog : CatalogOf
   pub exchange : LazyExchange
 
--- It stands for this exchange in flight: for that head under its tables, so many calls before its reply.
+-- It stands for this exchange in flight: for that head under its tables, `left` calls before its reply.
 pub record IsFlight (held : FlightHeld) (f : FlightOf) : Type 0 where
   pub tables : held.catalog ≡ f.asked.catalog
   pub answers : AnswersLazily held.catalog f.asked.head f.left held.exchange

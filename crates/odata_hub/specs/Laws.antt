@@ -1,4 +1,4 @@
--- What holds of a connection in every schedule. A connection is opened at a place; the events behind that which are its own are those of
+-- What holds of a connection in every schedule. A connection is opened at a place; the events after that which are its own are those of
 -- `own_of`.
 use Rattle.std.specs.Prelude.{◌≡◌, ◌↔◌, ◌≤◌, ◌+◌, ⊤, length, max, ℕ, Bool, true, false, List, [], ◌∷◌, ◌++◌, None, Some, slice_get}
 use Rattle.std.specs.List.{AllZip, concat}
@@ -121,8 +121,8 @@ HopelessConnectionsEnd = (start end : HubOf) (place : ℕ) (events : List Happen
 
 -- ---- how many turns a reply takes
 
--- The life of a connection in a schedule, seen at two moments: it was opened at the place; behind the events `before` it was the old one, and
--- behind `after`, which follow them, it is the new one. It was not dropped, and memory lasted for it.
+-- The life of a connection in a schedule, seen at two moments: it was opened at the place; after the events `before` it was the old one, and
+-- after `after`, which follow them, it is the new one. It was not dropped, and memory lasted for it.
 pub record LivesOn (place : ℕ) (before after : List Happening) (old new : ConnOf) : Type 0 where
   pub start : HubOf
   pub mid : HubOf
@@ -135,7 +135,7 @@ pub record LivesOn (place : ℕ) (before after : List Happening) (old new : Conn
   pub new_is : conn_at end place ≡ Some new
 
 -- The whole reply to this head was added to the output, and nothing else: what was taken since, and what is in the output, are together what was in
--- the output before and then the reply. No exchange is in flight; and these others wait, with what came since behind them.
+-- the output before and then the reply. No exchange is in flight; and these others wait, with what came since after them.
 pub record IsBrought (old : ConnOf) (a : Asked) (others : List Asked) (os : List Own) (new : ConnOf) : Type 0 where
   pub reply : List ℕ
   pub is : IsReplyTo a reply
@@ -155,20 +155,20 @@ BringsReply = (place : ℕ) (before after : List Happening) (old new : ConnOf) (
 abbrev pub IsNext : ConnOf → Asked → List Asked → Type 0
 IsNext c a others = (c.flight ≡ None) × (c.waiting ≡ a ∷ others)
 
--- and the next head, after as many turns behind the one that begins it as its reply takes calls
+-- and the next head, after as many turns after the one that begins it as its reply takes calls
 abbrev pub BringsNext : Type 0
 BringsNext = (place : ℕ) (before after : List Happening) (old new : ConnOf) (a : Asked) (others : List Asked) (calls : ℕ)
     → LivesOn place before after old new → IsNext old a others → HeadTakes a.catalog a.head calls
     → turns_in (own_of place after) ≡ calls + 1
     → IsBrought old a others (own_of place after) new
 
--- The whole reply to this head was added to the output, and maybe others behind it.
+-- The whole reply to this head was added to the output, and maybe others after it.
 pub record IsAmong (old : ConnOf) (a : Asked) (os : List Own) (new : ConnOf) : Type 0 where
   pub reply : List ℕ
   pub is : IsReplyTo a reply
   pub output : IsFrontOf (old.output ++ reply) (taken_of os ++ new.output)
 
--- So many turns are enough for a request: on a table one more than it has blocks, of which one is counted where it has none; on no table 2.
+-- This many turns are enough for a request: on a table one more than it has blocks, of which one is counted where it has none; on no table 2.
 abbrev pub AreEnoughTurns : CatalogOf → RequestOf → ℕ → Type 0
 AreEnoughTurns catalog (refused code) turns = 2 ≤ turns
 AreEnoughTurns catalog service turns = 2 ≤ turns
@@ -211,7 +211,7 @@ pub record Parts (place : ℕ) (older newer : CatalogOf) (before after : List Ha
   pub earlier_have : HaveCatalog older heads
   pub later_have : HaveCatalog newer later
 
--- a head that came before a reload has the older tables, one that came behind it the newer
+-- a head that came before a reload has the older tables, one that came after it the newer
 abbrev pub KeepsCatalogs : Type 0
 KeepsCatalogs = (start end : HubOf) (place : ℕ) (newer : CatalogOf) (before after : List Happening)
     → HubRun start (opened place ∷ (before ++ reload newer ∷ after)) end

@@ -9,7 +9,7 @@ use Rattle.odata_hub.specs.Streams.{Came, Asked, IsCutUnder}
 abbrev pub IsReplyTo : Asked → List ℕ → Type 0
 IsReplyTo a reply = IsReply a.catalog a.head reply
 
--- the replies that are certain behind a stream, whatever follows; after its end all, with that to a rest
+-- the replies that are certain after a stream, whatever follows; after its end all, with that to a rest
 pub record AreHubReplies (stream : List Came) (ended : Bool) (replies : List ℕ) : Type 0 where
   pub heads : List Asked
   pub rest : List ℕ
@@ -19,7 +19,7 @@ pub record AreHubReplies (stream : List Came) (ended : Bool) (replies : List ℕ
   pub are : AllZip IsReplyTo heads each
   pub replies_are : replies ≡ concat each ++ (if ended then last_reply rest else [])
 
--- what stands behind the replies to some first heads: nothing, or behind the last head of a stream that ended the reply to its rest
+-- what stands after the replies to some first heads: nothing, or after the last head of a stream that ended the reply to its rest
 abbrev pub IsBehind : Bool → List Asked → List ℕ → List ℕ → Type 0
 IsBehind ended others rest bytes = (bytes ≡ []) ⊎ ((ended ≡ true) × (others ≡ []) × (bytes ≡ last_reply rest))
 

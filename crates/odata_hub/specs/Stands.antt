@@ -80,22 +80,22 @@ abbrev pub LendsAt : Option ConnOf → Result (Bor (List ℕ)) HubFault → Type
 LendsAt None result = result ≡ Err NoSuchConnection
 LendsAt (Some c) result = (bytes : Bor (List ℕ)) × (result ≡ Ok bytes) × IsFront bytes.now c.output
 
--- of so many bytes of the output of what a place holds it is told that they were taken, or that there is none
+-- of `taken` bytes of the output of what a place holds it is reported that they were taken, or that there is none
 abbrev pub TellsTook : Option ConnOf → Result ⊤ HubFault → Type 0
 TellsTook None result = result ≡ Err NoSuchConnection
 TellsTook (Some c) result = result ≡ Ok tt
 
--- the step of a connection that takes so many bytes, of the one that this stands for
+-- the step of a connection that takes `taken` bytes, of the one that this stands for
 abbrev pub IsConnTook : Connection → ℕ → Connection → Type 0
 IsConnTook old count new =
     (c : ConnOf) → ConnStandsFor old c → (d : ConnOf) × Step c (Take count) (answer_to c (Take count)) d × ConnStandsFor new d
 
--- what taking so many bytes answers: they are those that were lent
+-- what taking `taken` bytes answers: they are those that were lent
 abbrev pub took_answer : Option ConnOf → ℕ → Answer
 took_answer None count = Refused NoSuchConnection
 took_answer (Some c) count = answer_to c (Take count)
 
--- so many bytes are taken from the connection at a place: one step of the hub that these tables and places stand for
+-- `taken` bytes are taken from the connection at a place: one step of the hub that these tables and places stand for
 abbrev pub ArePlacesTook : CatalogOf → List (Option Connection) → ℕ → ℕ → List (Option Connection) → Type 0
 ArePlacesTook catalog old place count new = (h : HubOf) → AreHub catalog old h
     → (n : HubOf) × HubStep h (On place (Take count)) (took_answer (conn_at h place) count) n × AreHub catalog new n

@@ -26,7 +26,7 @@ asked catalog heads = map (λ head. record { catalog = catalog; head = head }) h
 abbrev pub heads_of : List Asked → List HeadOf
 heads_of heads = map (λ a. a.head) heads
 
--- The heads that are whole with a piece and were not before it: behind `before`, of which the heads `cut` are cut off, it brings the last byte
+-- The heads that are whole with a piece and were not before it: after `before`, of which the heads `cut` are cut off, it brings the last byte
 -- of each of these.
 pub record Brings (before : List ℕ) (cut : List HeadOf) (piece : List ℕ) (heads : List HeadOf) : Type 0 where
   pub rest : List ℕ

@@ -16,7 +16,7 @@ use Rattle.odata_hub.specs.Stands.{conn_of}
 abbrev pub FoundWork : Connection → Option FlightOf → Type 0
 FoundWork old f = works (conn_of old f) ≡ true
 
--- the output is as it was, and whether a closing head was cut off and the stream ended: what want of memory leaves
+-- the output is as it was, and whether a closing head was cut off and the stream ended: what is left when memory ran out
 abbrev pub KeepsOutput : Connection → Connection → Type 0
 KeepsOutput old new = (new.output ≡ old.output) × (new.closed ≡ old.closed) × (new.ended ≡ old.ended)
 

@@ -27,7 +27,7 @@ fraction_there (b ∷ d ∷ after) is =
     let both = (Decides-and _ _ (Decides-eqb b point) (Decides-digit d)).0 is in
     record { digit = d; after = after; split = ap (λ x. x ∷ d ∷ after) both.0; small = both.1 }
 
--- what the test says of the digits and of what stands behind them
+-- what the test says of the digits and of what stands after them
 pub decimal_parts : (text : List ℕ) → begins_decimal text ≡ true → AreDigits (take (word_len text) text) × Fraction (drop (word_len text) text)
 decimal_parts text is =
     let both = (Decides-and _ _ (Decides-digits (take (word_len text) text)) ((λ e. e), (λ e. e))).0 is in
@@ -63,7 +63,7 @@ decimal_back text d =
     let behind : drop (length d.whole) text ≡ rest = ap (drop (length d.whole)) d.split ∙ drop_at d.whole rest (length d.whole) refl in
     parts_test text d.whole rest (length d.whole) len front behind ((Decides-digits d.whole).1 d.before) (fraction_back d.digit d.after d.behind)
 
--- the digits of a date are four, and `-` stands behind them
+-- the digits of a date are four, and `-` stands after them
 date_at : (front after : List ℕ) → IsDateForm front → (word_len (front ++ after) ≡ 4) × (get_or (front ++ after) 4 0 ≡ minus)
 date_at front after form =
     let long : length front ≡ 10 = form.ten in

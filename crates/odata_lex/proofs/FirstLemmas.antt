@@ -69,7 +69,7 @@ no_day P text None begins none refused =
     let other : is_day (take 10 text) ≡ false = false_from_ne_true _ (λ is. refused ((Decides-day (take 10 text) form).0 is)) in
     rw other refl
 
--- a Text, as the code reads it behind the first byte
+-- a Text, as the code reads it after the first byte
 pub quote_some : (text : List ℕ) (n : ℕ) → 0 < length text → get_or text 0 0 ≡ 39 → Some n ≡ text_len false (take (length text - 1) (drop 1 text)) → Some (Text, n + 1) ≡ first_token text
 quote_some text n long is found =
     let behind = take_rest text 1 in

@@ -41,7 +41,7 @@ pub word_len-append : (front after : List ℕ) → AreWordBytes front → ends_w
 word_len-append [] after bytes ends = word_len-end after ends
 word_len-append (b ∷ front) after (first, others) ends = word_len-yes b (front ++ after) first ∙ ap suc (word_len-append front after others ends)
 
--- the run at the front: its bytes, and what is behind it
+-- the run at the front: its bytes, and what is after it
 run_at : (b : ℕ) (text : List ℕ) (q : Bool) → is_word_byte b ≡ q → AreWordBytes (take (word_len text) text) → AreWordBytes (take (word_len (b ∷ text)) (b ∷ text))
 run_at b text true is rest = rw (word_len-yes b text is) (is, rest)
 run_at b text false is rest = rw (word_len-no b text is) tt

@@ -20,7 +20,7 @@ abbrev pub ends_word : List ℕ → Bool
 ends_word [] = true
 ends_word (b ∷ _) = not (is_word_byte b)
 
--- the bytes up to the end of a Text, behind its first `'`, or behind a `'` that may be its last one
+-- the bytes up to the end of a Text, after its first `'`, or after a `'` that may be its last one
 unfoldable pub text_len : Bool → List ℕ → Option ℕ
 text_len closed [] = if closed then Some 0 else None
 text_len closed (b ∷ text) =
@@ -57,7 +57,7 @@ begins_fraction (b ∷ c ∷ _) = (b == point) && is_ascii_digit c
 abbrev pub begins_decimal : List ℕ → Bool
 begins_decimal text = list_all is_ascii_digit (take (word_len text) text) && begins_fraction (drop (word_len text) text)
 
--- what stands behind the digits and `.`
+-- what stands after the digits and `.`
 abbrev pub behind_point : List ℕ → List ℕ
 behind_point text = drop (word_len text + 1) text
 

@@ -66,7 +66,7 @@ pub record IsTooMany (source : List ℕ) : Type 0 where
   pub reads : ReadsAll source tokens rest
   pub many : MAX_TOKENS < length tokens
 
--- a bad place, behind no more tokens than allowed
+-- a bad place, after no more tokens than allowed
 pub record IsBad (source : List ℕ) : Type 0 where
   pub tokens : List Token
   pub rest : List ℕ
@@ -74,13 +74,13 @@ pub record IsBad (source : List ℕ) : Type 0 where
   pub few : length tokens ≤ MAX_TOKENS
   pub bad : IsBadPlace rest
 
--- the fault of a source; for want of memory nothing is said
+-- the fault of a source; of memory that ran out nothing is said
 abbrev pub IsFault : List ℕ → LexFault → Type 0
 IsFault source Bad = IsBad source
 IsFault source TooMany = IsTooMany source
 IsFault source NoMemory = Unit {0}
 
--- this fault, or want of memory
+-- this fault, or out of memory
 abbrev pub IsOrNoMemory : LexFault → LexFault → Type 0
 IsOrNoMemory fault e = (e ≡ fault) ⊎ (e ≡ NoMemory)
 

@@ -2,7 +2,7 @@
 use Rattle.std.specs.Prelude.{◌≡◌}
 use Rattle.odata_listen.specs.Watch.{next_pause}
 
--- after one failure after the other a load is tried again after so many seconds
+-- after `failures` failures in a row a load is tried again after this many seconds
 pub record WorkedPauses : Type 0 where
   pub first : next_pause 0 ≡ 1
   pub second : next_pause 1 ≡ 2

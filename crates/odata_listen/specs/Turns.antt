@@ -37,7 +37,7 @@ pub record Visited (now place : ℕ) (old new : Served) : Type 0 where
   pub settles : Settles now (state_at charged.server.slots.items place) place charged.server new.server
   pub work : CountsWork (state_at charged.server.slots.items place) place charged.server charged.work new.work
 
--- so many of them, one after another
+-- `count` of them, one after another
 abbrev pub AreVisits : ℕ → ℕ → ℕ → Served → Served → Type 0
 AreVisits zero now place old new = new ≡ old
 AreVisits (suc visits) now place old new = (mid : Served) × AreVisits visits now place old mid × Visited now place mid new
@@ -73,11 +73,11 @@ abbrev pub HasTurnOf : Bool → ℕ → ℕ → Served → Served → Type 0
 HasTurnOf heavy now place old new = MatchBool (is_heavy_at old.server.sockets.wires.items place)
     (MatchBool heavy (HasTurn now place old new) (new ≡ old)) (MatchBool heavy (new ≡ old) (HasTurn now place old new))
 
--- the place whose turn it is, of so many in a circle: after the last comes the first
+-- the place whose turn it is, of `places` in a circle: after the last comes the first
 abbrev pub turn_at : ℕ → ℕ → ℕ
 turn_at places next = if nat_lt next places then next else 0
 
--- so many places had their turn in order, from one on; and where it goes on
+-- `count` places had their turn in order, from one on; and where it goes on
 abbrev pub Turns : ℕ → Bool → ℕ → ℕ → ℕ → ℕ → Served → Served → Type 0
 Turns zero heavy now places from next old new = (next ≡ from) × (new ≡ old)
 Turns (suc turns) heavy now places from next old new =

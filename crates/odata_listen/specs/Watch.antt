@@ -37,7 +37,7 @@ HandsOver (Ok catalog) old new (Err fault) = (fault ≡ NoMemory) × (new ≡ ol
 HandsOver (Err fault) old new (Ok u) = ⊥
 HandsOver (Err fault) old new (Err other) = (other ≡ Folder fault) × (new ≡ old)
 
--- Whether a reload comes to the same end as long as the folder stays: its tables were taken up, or it is refused. A device that failed, and memory that
+-- Whether a reload comes to the same end as long as the folder stays: its tables were replaced, or it is refused. A device that failed, and memory that
 -- ran out, may be there again.
 abbrev pub is_final : Result ⊤ ProgramFault → Bool
 is_final (Ok u) = true

@@ -85,7 +85,7 @@ filter_parts (an_aggregation r) h = absurd (let k = keyword_unique filter_word a
 filter_parts (a_grouping k p r q) h = absurd (let j = keyword_unique filter_word groupby_word h k in cc)
 filter_parts (a_grouping_with k p r m s q) h = absurd (let j = keyword_unique filter_word groupby_word h k in cc)
 
--- behind the names of a grouping: `)`, or `,`, an aggregate and `)`
+-- after the names of a grouping: `)`, or `,`, an aggregate and `)`
 pub data GroupTail (names : List (List ℕ)) : List TokenOf → TransformationOf → List TokenOf → Type 0 where
   group_alone : {c : TokenOf} {after : List TokenOf} → c.kind ≡ CloseParenthesis → GroupTail names (c ∷ after) (group_by names None) after
   group_with : {s c : TokenOf} {items : List AggregateItemOf} {mid after : List TokenOf} → s.kind ≡ Comma → ReadsAggregate mid items (c ∷ after) → c.kind ≡ CloseParenthesis → GroupTail names (s ∷ mid) (group_by names (Some items)) after

@@ -24,7 +24,7 @@ own = numerals_by_value _ tells_digits
 no_point : (b : ℕ) → IsInRange 48 57 b → is_decimal_point b ≡ false
 no_point b range = grind (arith, nat_tests)
 
--- the point stands behind the digits
+-- the point stands after the digits
 point_at : (whole fraction : List ℕ) → AreDigits whole → position_or_len is_decimal_point (whole ++ point ∷ fraction) ≡ length whole
 point_at whole fraction digits =
     position_or_len_is is_decimal_point (whole ++ point ∷ fraction) (length whole) 0 (omega (arith, length-append whole (point ∷ fraction)))

@@ -44,7 +44,7 @@ nothing_opens n (suc k) h many = omega arith
 pub OpensLater-end : (whole rest : List TokenOf) (n : ℕ) → OpensLater whole rest n → rest ≡ [] → OpensTooMany whole → ⊥
 OpensLater-end whole rest n o is w = let f = subst (λ (s : List TokenOf). OpensFrom n s) is (o.forth w) in nothing_opens n f.place o.few f.many
 
--- behind n operators the rest begins with enough, or they stand later
+-- after n operators the rest begins with enough, or they stand later
 pub data RepeatsFrom (n : ℕ) (tokens : List TokenOf) : Type 0 where
   repeats_now : BeginsWithOperators (9 - n) tokens → RepeatsFrom n tokens
   repeats_later : RepeatsOperators tokens → RepeatsFrom n tokens

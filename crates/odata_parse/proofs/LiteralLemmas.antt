@@ -40,7 +40,7 @@ doubled_cases b bytes false e = inr (grind (arith, nat_tests), rw e refl)
 pub doubled_first : (b : ℕ) (bytes : List ℕ) → ((b ≡ 39) × (apostrophes_doubled (b ∷ bytes) ≡ 39 ∷ 39 ∷ apostrophes_doubled bytes)) ⊎ ((b ≢ 39) × (apostrophes_doubled (b ∷ bytes) ≡ b ∷ apostrophes_doubled bytes))
 doubled_first b bytes = doubled_cases b bytes (b == apostrophe) refl
 
--- In d, which is these bytes with doubled quotes, a quote stands at k and another one behind it.
+-- In d, which is these bytes with doubled quotes, a quote stands at k and another one after it.
 pub record IsPair (d bytes : List ℕ) (k : ℕ) : Type 0 where
   pub front : take (suc k) d ≡ take (suc k) bytes
   pub back : drop (suc (suc k)) d ≡ apostrophes_doubled (drop (suc k) bytes)
@@ -84,7 +84,7 @@ doubled_same : (bytes : List ℕ) → ((i : ℕ) → i < length (apostrophes_dou
 doubled_same [] none = refl
 doubled_same (b ∷ bytes) none = doubled_same_more b bytes (doubled_first b bytes) (λ h. doubled_same bytes h) none
 
--- the content so far and what is left behind it, as the text has it doubled
+-- the content so far and what is left after it, as the text has it doubled
 pub record Unquoting (quoted content rest : List ℕ) : Type 0 where
   pub left : List ℕ
   pub is_doubled : rest ≡ apostrophes_doubled left
@@ -122,14 +122,14 @@ Unquoting-end quoted content rest u none =
     let same = doubled_same u.left (subst (λ (d : List ℕ). (i : ℕ) → i < length d → get_or d i 0 ≢ 39) u.is_doubled none) in
     let r : rest ≡ u.left = u.is_doubled ∙ same in rw r u.whole
 
--- behind the first quote of the rest stands another one
+-- after the first quote of the rest stands another one
 pub Unquoting-second : (quoted content rest : List ℕ) (k : ℕ) → Unquoting quoted content rest → k < length rest → get_or rest k 0 ≡ 39 → ((i : ℕ) → i < k → get_or rest i 0 ≢ 39) → (k + 2 ≤ length rest) × (get_or rest (k + 1) 0 ≡ 39)
 Unquoting-second quoted content rest k u within is none =
     let p = doubled_pair u.left k (rw u.is_doubled at within) (rw u.is_doubled at is) (subst (λ (d : List ℕ). (i : ℕ) → i < k → get_or d i 0 ≢ 39) u.is_doubled none) in
     let one : k + 1 ≡ suc k = omega arith in
     rw u.is_doubled (omega (arith, p.within), rw one p.second)
 
--- behind a quote a character begins
+-- after a quote a character begins
 pub quote_boundary : (bytes : List ℕ) (k : ℕ) → IsUtf8 bytes → k < length bytes → get_or bytes k 0 ≡ 39 → IsCharBoundary bytes (k + 1)
 quote_boundary bytes k utf8 within is = (beside_ascii bytes k utf8 within (omega (arith, is))).1
 
@@ -221,7 +221,7 @@ ReadsLiteral-minus (behind_minus s r) is = r
 not_both : (kind : TokenKind) → kind ≡ Number → kind ≡ Decimal → ⊥
 not_both kind n d = let e : Number ≡ Decimal = sym n ∙ d in cc
 
--- tokens are one value, and end behind it
+-- tokens are one value, and end after it
 pub negative_only : {old now after : List TokenOf} {v w : LiteralOf} → ReadsNegative old v now → ReadsNegative old w after → (v ≡ w) × (now ≡ after)
 negative_only (negative_number n e) (negative_number k d) = (rw (e, d) refl, refl)
 negative_only (negative_number {t = t} n e) (negative_decimal k d) = absurd (not_both t.kind n k)

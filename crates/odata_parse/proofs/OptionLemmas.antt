@@ -12,7 +12,7 @@ use Rattle.odata_parse.specs.Tree.{LiteralOf, ExprOf, OrderItemOf, order_item, S
 use Rattle.odata_parse.proofs.KeywordLemmas.{operator, in_word, asc_word, desc_word}
 use Rattle.odata_parse.proofs.PhraseLemmas.{keyword_unique, word_no_open, item_ends}
 
--- behind an expression: nothing, `asc` or `desc`
+-- after an expression: nothing, `asc` or `desc`
 pub data OrderTail : ExprOf → List TokenOf → OrderItemOf → List TokenOf → Type 0 where
   tail_alone : {e : ExprOf} {after : List TokenOf} → OrderTail e after (order_item e false) after
   tail_ascending : {t : TokenOf} {e : ExprOf} {after : List TokenOf} → IsKeyword (codes "asc") t → OrderTail e (t ∷ after) (order_item e false) after

@@ -15,7 +15,7 @@ module _ {T X : Type 0} (view : T → X) (IsTree : List TokenOf → X → Type 0
   pub parsed_tree : (x : T) → ¬ (IsDeep tokens) → IsTree tokens (view x) → IsParsedUnless IsDeep view IsTree tokens (Ok x)
   parsed_tree x shallow is = record { tree = is; too_deep = ((λ e. absurd (cc)), (λ deep. absurd (shallow deep))); syntax = λ e. absurd (cc) }
 
-  -- a tree would have been found, but for want of memory
+  -- a tree would have been found, but memory ran out
   pub parsed_none : (fault : PhraseFault) → ¬ (IsDeep tokens) → ((x : X) → IsTree tokens x → fault ≡ NoMemoryForPhrase) → IsParsedUnless IsDeep view IsTree tokens (Err (parse_fault fault))
   parsed_none NoPhrase shallow none = record {
     tree = tt;

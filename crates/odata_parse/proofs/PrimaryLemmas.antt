@@ -99,7 +99,7 @@ Reads-unsigned (read_unary {t} {before} {o} k r) none = absurd (none t before o 
 Reads-unsigned (read_binary {o = p} r k d q) none = absurd (omega (arith, level_from_three p))
 Reads-unsigned (read_tighter r) none = r
 
--- behind a primary: nothing, or `in` and a list
+-- after a primary: nothing, or `in` and a list
 pub data Tail : ExprOf → List TokenOf → ExprOf → List TokenOf → Type 0 where
   tail_none : {v : ExprOf} {after : List TokenOf} → Tail v after v after
   tail_in : {t : TokenOf} {mid after : List TokenOf} {v : ExprOf} {vs : List LiteralOf} → IsKeyword (codes "in") t → Enclosed ReadsLiteral Comma mid vs after → Tail v (t ∷ mid) (in_list v vs) after

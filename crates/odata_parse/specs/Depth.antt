@@ -7,13 +7,13 @@ use Rattle.odata_parse.specs.declared.depth.TheConstants.{MAX_OPEN, MAX_OPERATOR
 use Rattle.odata_parse.specs.declared.tree.UnaryOperator.{UnaryOperator}
 use Rattle.odata_parse.specs.Expression.{IsUnaryOperator}
 
--- how many `(` are open behind a token, where n are before it; a `)` that closes nothing does not count
+-- how many `(` are open after a token, where n are before it; a `)` that closes nothing does not count
 abbrev pub open_behind : ℕ → TokenKind → ℕ
 open_behind n OpenParenthesis = n + 1
 open_behind n CloseParenthesis = n - 1
 open_behind n _ = n
 
--- and behind these tokens
+-- and after these tokens
 abbrev pub open_groups_after : ℕ → List TokenOf → ℕ
 open_groups_after n [] = n
 open_groups_after n (t ∷ tokens) = open_groups_after (open_behind n t.kind) tokens
@@ -49,6 +49,6 @@ abbrev pub slashes : List TokenOf → ℕ
 slashes [] = 0
 slashes (t ∷ tokens) = slash_of t.kind + slashes tokens
 
--- the same for `$apply`, whose transformations are parted by `/`
+-- the same for `$apply`, whose transformations are separated by `/`
 abbrev pub IsTooDeepForApply : ℕ → List TokenOf → Type 0
 IsTooDeepForApply limit tokens = IsTooDeep tokens ⊎ (limit ≤ slashes tokens)

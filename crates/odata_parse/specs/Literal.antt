@@ -24,7 +24,7 @@ Quotes content bytes = bytes ≡ apostrophe ∷ apostrophes_doubled content ++ a
 abbrev pub is_decimal_point : ℕ → Bool
 is_decimal_point b = b == point
 
--- the digits before the point, and those behind it
+-- the digits before the point, and those after it
 abbrev pub whole_of : List ℕ → List ℕ
 whole_of bytes = before_first is_decimal_point bytes
 
@@ -48,11 +48,11 @@ IsLiteralOfKind _ bytes v = ⊥
 abbrev pub IsLiteral : TokenOf → LiteralOf → Type 0
 IsLiteral t v = IsLiteralOfKind t.kind t.text v
 
--- a token that is a value was not read for want of memory
+-- a token that is a value was not read because memory ran out
 abbrev pub FailsLiteral : TokenOf → PhraseFault → Type 0
 FailsLiteral t fault = (v : LiteralOf) → IsLiteral t v → fault ≡ NoMemory
 
--- a number or a decimal, as it stands behind `-`
+-- a number or a decimal, as it stands after `-`
 pub data ReadsNegative : List TokenOf → LiteralOf → List TokenOf → Type 0 where
   negative_number : {t : TokenOf} {n : ℤ} {after : List TokenOf} → t.kind ≡ Number → n ≡ neg_ℤ (pos (digits_value 10 t.text)) → ReadsNegative (t ∷ after) (number n) after
   negative_decimal : {t : TokenOf} {n : ℤ} {after : List TokenOf} → t.kind ≡ Decimal → n ≡ neg_ℤ (pos (millionths_of t.text)) → ReadsNegative (t ∷ after) (decimal n) after

@@ -84,7 +84,7 @@ FindsExpr l old result new = Finds expr_view (Reads l) old result new
 abbrev pub ParsesExpr : ℕ → List TokenOf → Result Expr PhraseFault → List TokenOf → Type 0
 ParsesExpr l old result new = Parses expr_view (Reads l) (CanEnd l) old result new
 
--- a word is a function, and the tokens before are the rest of its call, from behind `(` on
+-- a word is a function, and the tokens before are the rest of its call, from after `(` on
 pub data Calls (t : TokenOf) : List TokenOf → ExprOf → List TokenOf → Type 0 where
   calls_unary : {c : TokenOf} {before after : List TokenOf} {f : UnaryFunction} {e : ExprOf} → IsKeyword (unary_function_text f) t → Reads top before e (c ∷ after) → c.kind ≡ CloseParenthesis → Calls t before (unary_call f e) after
   calls_binary : {s c : TokenOf} {before mid after : List TokenOf} {f : BinaryFunction} {a b : ExprOf} → IsKeyword (binary_function_text f) t → Reads top before a (s ∷ mid) → s.kind ≡ Comma → Reads top mid b (c ∷ after) → c.kind ≡ CloseParenthesis → Calls t before (binary_call f a b) after
@@ -96,12 +96,12 @@ FindsCall t old result new = Finds expr_view (Calls t) old result new
 abbrev pub ParsesCall : TokenOf → List TokenOf → Result Expr PhraseFault → List TokenOf → Type 0
 ParsesCall t old result new = ParsesAll expr_view (Calls t) old result new
 
--- nothing is left behind the tree
+-- nothing is left after the tree
 abbrev pub AreAll : {X : Type 0} → (List TokenOf → X → List TokenOf → Type 0) → List TokenOf → X → Type 0
 AreAll reads tokens x = reads tokens x []
 
 -- A parser of all the tokens: it gives their tree; `TooDeep` exactly where they nest too deep; `Syntax` only where they have no tree.
--- Want of memory is all that is left.
+-- That memory ran out is all that is left.
 pub record IsParsedUnless {T X : Type 0} (IsDeep : List TokenOf → Type 0) (view : T → X) (IsTree : List TokenOf → X → Type 0) (tokens : List TokenOf) (result : Result T ParseFault) : Type 0 where
   pub tree : IfOk result (λ x. IsTree tokens (view x))
   pub too_deep : IsErrOf result TooDeep ↔ IsDeep tokens

@@ -14,7 +14,7 @@ pub unknown_column : (inputs : List InputOf) (places : List ℕ) (i : ℕ) → i
     → columns_at inputs (drop i places) ≡ columns_at inputs (drop (i + 1) places)
 unknown_column inputs places i h e = let more = drop_more places i 0 h in rw (more, ← e) refl
 
--- a column goes from those that are left behind those so far
+-- a column goes from those that are left after those so far
 pub one_more : (all : List InputOf) (made next : List InputColumn) (column : InputColumn) (rest others : List InputOf)
     → all ≡ inputs_view made ++ rest → rest ≡ input_view column ∷ others → next ≡ made ++ column ∷ [] → all ≡ inputs_view next ++ others
 one_more all made next column rest others h e m =

@@ -1,4 +1,4 @@
--- One more element behind others: it is new where no earlier one equals it.
+-- One more element after others: it is new where no earlier one equals it.
 use Rattle.std.proofs.Common.{ℕ, ◌+◌, ◌<◌, length, take, get_or, nat_eq, ◌≡◌, Bool, true, false, not, ◌||◌, List, [], ◌∷◌, ◌++◌, inl, inr, refl, ap, sym, ◌∙◌}
 use Rattle.std.proofs.lemmas.Bool.{cases_Bool}
 use Rattle.std.proofs.lemmas.Cmp.{nat_eq_equiv}

@@ -55,7 +55,7 @@ abbrev pub item_typing : List InputOf → List ItemOf → AggregateItemOf → Re
 item_typing inputs earlier (aggregated name m alias) = computed_typing inputs name m >>= λ made. free_typing inputs earlier made alias
 item_typing inputs earlier (counted alias) = free_typing inputs earlier (Count, column.Integer COUNT_SIZE) alias
 
--- items one after another, behind earlier ones
+-- items one after another, after earlier ones
 abbrev pub items_typing : List InputOf → List ItemOf → List AggregateItemOf → Result (List ItemOf) TypeFault
 items_typing inputs earlier [] = Ok []
 items_typing inputs earlier (item ∷ items) = item_typing inputs earlier item >>= λ x. items_typing inputs (earlier ++ x ∷ []) items >>= λ xs. Ok (x ∷ xs)

@@ -22,12 +22,12 @@ eq-option_text Top b = elim b as (λ other. (ghosts).eq Top other ≡ bytes_eq (
 eq-option_text Select b = elim b as (λ other. (ghosts).eq Select other ≡ bytes_eq (option_text Select) (option_text other)) [ Select ↦ refl | _ ↦ refl ]
 eq-option_text Format b = elim b as (λ other. (ghosts).eq Format other ≡ bytes_eq (option_text Format) (option_text other)) [ Format ↦ refl | _ ↦ refl ]
 
--- the options from one on are it and those behind it
+-- the options from one on are it and those after it
 from_here : (options : List (OptionName × String Global)) (i : ℕ) (option : OptionName × String Global)
     → i < length options → option ≡ get_or options i option → drop i options ≡ option ∷ drop (i + 1) options
 from_here options i option less at = rw add-one (drop-cons options i option less ∙ ap (λ (x : OptionName × String Global). x ∷ drop (suc i) options) (sym at))
 
--- the fault of the options from one on is its own, or that of those behind it
+-- the fault of the options from one on is its own, or that of those after it
 pub fault_from : (path : ResourceOf) (options : List (OptionName × String Global)) (i : ℕ) (option : OptionName × String Global)
     → i < length options → option ≡ get_or options i option
     → options_fault path (map option_view (drop i options))
@@ -39,7 +39,7 @@ chosen : (b : Bool) (option : QueryOption) (o : Option QueryOption) → option_m
 chosen true option o = refl
 chosen false option o = refl
 
--- the value among the options from one on is its own, or among those behind it
+-- the value among the options from one on is its own, or among those after it
 pub value_from : (name : OptionName) (options : List (OptionName × String Global)) (i : ℕ) (option : OptionName × String Global)
     → i < length options → option ≡ get_or options i option
     → option_value name (map option_view (drop i options))

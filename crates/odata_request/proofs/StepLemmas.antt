@@ -26,7 +26,7 @@ pub go_on : {X Y : Type 0} (step : Result X Code → Type 0) (next : X → Resul
 go_on step next (Refused code) x s h = goes_on x s h
 go_on step next NoMemory x s h = tt
 
--- the code of a fault that has one is told
+-- the code of a fault that has one is reported
 pub told_under : {X E : Type 0} (code : E → Option Code) (outcome : Result X E) (fault : E) → outcome ≡ Err fault → Refuses (TellsCause code outcome) (fault_of (code fault))
 told_under {X} {E} code outcome fault e = subst (λ (w : Result X E). Refuses (TellsCause code w) (fault_of (code fault))) (sym e) (under (code fault))
   where

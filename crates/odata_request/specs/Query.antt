@@ -9,7 +9,7 @@ use Rattle.odata_request.specs.Fault.{TellsCause, type_code}
 use Rattle.odata_request.specs.Options.{TextsOf}
 use Rattle.odata_request.specs.Reading.{◌>>=◌, IsResult, ReadsApply, ReadsFlag, ReadsNumber, ReadsOption, ReadsOr, ReadsTree}
 
--- how the texts of a query read, one after another: the first code is told
+-- how the texts of a query read, one after another: the first code is reported
 abbrev pub ReadsQuery : ℕ → TextsOf → Result QueryOf Code → Type 0
 ReadsQuery limit texts = do
   key ← ReadsOption (ReadsTree IsKey) texts.key

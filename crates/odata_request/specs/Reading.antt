@@ -13,7 +13,7 @@ use Rattle.odata_parse.specs.Tree.{TransformationOf}
 use Rattle.odata_errors.specs.declared.code.Code.{Code}
 use Rattle.odata_errors.specs.declared.code.Code.TheVariants.{BadToken, TooMany, TooDeep, Syntax}
 
--- One step and then what follows it, which may hang on what the step gives: up to the first code.
+-- One step and then what follows it, which may depend on what the step gives: up to the first code.
 pub data Then {X Y : Type 0} (step : Result X Code → Type 0) (next : X → Result Y Code → Type 0) (result : Result Y Code) : Type 0 where
   stops : (code : Code) → step (Err code) → result ≡ Err code → Then step next result
   goes_on : (x : X) → step (Ok x) → next x result → Then step next result

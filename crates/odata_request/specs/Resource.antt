@@ -51,12 +51,12 @@ has_parenthesis segment = list_any is_parenthesis segment
 abbrev pub without_end : List ℕ → Option (List ℕ)
 without_end text = if ends_with nat_eq text (codes ")") then Some (take (length text - 1) text) else None
 
--- a table's name with a key behind it, where that ended
+-- a table's name with a key after it, where that ended
 abbrev pub key_resource : List TableOf → List ℕ → Option (List ℕ) → Result ResourceOf Code
 key_resource tables name None = Err NotFound
 key_resource tables name (Some text) = in_table (λ number. key number text) (table_number tables name)
 
--- a segment: a table's name, perhaps with a key behind the first `(` and before a `)` at the end
+-- a segment: a table's name, perhaps with a key after the first `(` and before a `)` at the end
 abbrev pub segment_resource : List TableOf → List ℕ → Result ResourceOf Code
 segment_resource tables segment =
     if has_parenthesis segment
@@ -73,7 +73,7 @@ one_resource tables segment =
 abbrev pub other_resource : List (List ℕ) → Result ResourceOf Code
 other_resource segments = Err (if list_any (begins_with dollar_sign) segments then NotServed else NotFound)
 
--- a table's number of rows: a segment without a key, and `$count` behind it (section 4.8)
+-- a table's number of rows: a segment without a key, and `$count` after it (section 4.8)
 abbrev pub is_count_path : List ℕ → List ℕ → Bool
 is_count_path segment behind = not (begins_with dollar_sign segment) && not (has_parenthesis segment) && bytes_eq behind (codes "$count")
 

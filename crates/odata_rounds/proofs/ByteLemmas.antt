@@ -18,7 +18,7 @@ keeps_appends None b e = tt
 keeps_appends (Some xs) None e = absurd e
 keeps_appends (Some xs) (Some ys) e = e ∙ sym (append-nil xs)
 
--- all that was told to be left was consumed
+-- all that was reported as left was consumed
 pub read_out : (a b : Option (List ℕ)) (xs : List ℕ) → Consumes a b xs → IsAtEnd b → IsReadOut a b
 read_out None b xs p e = tt
 read_out (Some x) None xs p e = absurd p

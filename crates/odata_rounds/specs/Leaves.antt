@@ -48,7 +48,7 @@ MayTellOver Answered = ⊤
 MayTellOver Lost = ⊥
 MayTellOver Failed = ⊤
 
--- the place is told that its connection is over
+-- the place is reported as over
 abbrev pub IsToldOver : HubOf → ℕ → Slot → Type 0
 IsToldOver h place slot = is_over_at h place ≡ true → MayTellOver slot.state
 
@@ -69,6 +69,6 @@ pub record Leaves (place : ℕ) (old new : SightOf) (h : HubOf) : Type 0 where
   pub others : (other : ℕ) → other ≢ place → conn_at next other ≡ conn_at h other
 
 -- No more than one reply waits at a place where that was so before its visit; one that did nothing leaves the place at ease; a place whose connection is
--- over is told so; and the connections at all other places are as they were.
+-- over is reported so; and the connections at all other places are as they were.
 abbrev pub VisitLeaves : Type 0
 VisitLeaves = (place : ℕ) (old new : SightOf) (h : HubOf) → ServesAt place old new → Models old.hub h → Leaves place old new h

@@ -23,7 +23,7 @@ IsHubRun old events new = (h : HubOf) → Models old h → (n : HubOf) × Servin
 abbrev pub at_place : ℕ → List Own → List Happening
 at_place place os = map (λ o. record { event = On place o.call; answer = o.answer }) os
 
--- so many bytes of the output were taken, and they are these
+-- `count` bytes of the output were taken, and they are these
 abbrev pub took : ℕ → List ℕ → Own
 took count bytes = record { call = Take count; answer = Gave bytes }
 
@@ -43,7 +43,7 @@ pub data Last : Type 0 where
   turned : (answer : Answer) → Last
   came : (answer : Answer) → Last
 
--- the calls after an idle turn: one piece comes, or the end is told, or nothing
+-- the calls after an idle turn: one piece comes, or the end is reported, or nothing
 pub data AfterIdle : Last → List Own → Type 0 where
   nothing : AfterIdle (turned (Went Idle)) []
   reads : (catalog : CatalogOf) (b : ℕ) (bytes : List ℕ) (answer : Answer)
@@ -90,13 +90,13 @@ abbrev pub pieces_of : List Own → List ℕ
 pieces_of [] = []
 pieces_of (o ∷ os) = piece_of o.call ++ pieces_of os
 
--- of the bytes that were told to be left none is
+-- of the bytes that were reported as left none is
 abbrev pub IsReadOut : Option (List ℕ) → Option (List ℕ) → Type 0
 IsReadOut None new = ⊤
 IsReadOut (Some bytes) new = new ≡ Some []
 
 -- What moved between a connection and its socket, which stays, by the calls on the connection: the socket took the bytes that were taken of the output, in order; the
--- pieces are the bytes that were read, each once; and the end was told only where nothing is left to be read.
+-- pieces are the bytes that were read, each once; and the end was reported only where nothing is left to be read.
 pub record Moves (old new : WireOf) (os : List Own) : Type 0 where
   pub socket : new.socket ≡ old.socket
   pub taken : Appends old.taken new.taken (taken_of os)

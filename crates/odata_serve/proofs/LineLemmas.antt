@@ -10,7 +10,7 @@ use Rattle.odata_http.specs.Device.{Counts, SinkOf}
 use Rattle.odata_http.specs.Answer.{HasWritten, HasFailed}
 use Rattle.odata_serve.specs.Check.{table_line, table_lines}
 
--- the lines of the tables up to one, its own, and those of the tables behind it
+-- the lines of the tables up to one, its own, and those of the tables after it
 lines_at : (tables : List TableOf) (i : ℕ) (table : TableOf) → i < length tables → table ≡ get_or tables i table
     → table_lines tables ≡ table_lines (take i tables) ++ (table_line table ++ table_lines (drop (i + 1) tables))
 lines_at tables i table less at =

@@ -24,7 +24,7 @@ no_plus (d ∷ ds) h =
     let plus : (d == 43) ≡ false = ne_eqb _ _ (λ e. omega (arith, digit_from_value d h.1.0)) in
     ap (λ (b : Bool). drop (cond b 1 0) (d ∷ ds)) plus
 
--- a text that `clap` takes for a number from zero up is one, behind a `-` that it may have before zero
+-- a text that `clap` takes for a number from zero up is one, after a `-` that it may have before zero
 pub number_taken : (bits high : ℕ) (t : Text) → high < 2 ^ bits → IsSignedIn (pos 0) (pos high) t → (n : ℕ) × IsNumberOfBits bits (Some (without_minus t)) n
 number_taken bits high t fits h =
     let u = without_leading_plus (without_minus t) in

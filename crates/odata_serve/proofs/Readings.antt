@@ -9,7 +9,7 @@ use Rattle.cli_args.specs.Words.{IsNumberOfBits}
 use Rattle.odata_serve.specs.Words.{SaysNothing, program_app}
 use Rattle.odata_serve.specs.declared.words.Words.TheVariants.{Nothing, Check, Query, Answer, Replay, Serve}
 
--- a kind other than want of memory is one of the kinds, so there are some
+-- a kind other than out of memory is one of the kinds, so there are some
 pub some_kind : {k m : ErrorKind} {ks : Kinds} → k ≡ m → (k ≡ OutOfMemory → ⊥) → (m ≡ OutOfMemory) ⊎ IsAmong m ks → ks ≡ [] → ⊥
 some_kind e n (inl h) none = n (e ∙ h)
 some_kind {k} {m} e n (inr h) none = let P : Kinds → Type 0 = λ x. IsAmong m x in subst P none h

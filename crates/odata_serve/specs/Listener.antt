@@ -26,7 +26,7 @@ CountsAnswer old new (Err Device) = (new.answered ≡ old.answered) × Counts ol
 CountsAnswer old new (Err NoMemory) = (new.answered ≡ old.answered) × (new.failed ≡ old.failed)
 CountsAnswer old new r = ⊥
 
--- how answering the stream of a connection ended: by a run, whose fault is the connection's alone but for want of memory
+-- how answering the stream of a connection ended: by a run, whose fault is the connection's alone unless memory ran out
 abbrev pub IsConnection : (HeadOf → List ℕ → Type 0) → Course → Result ⊤ ProgramFault → Type 0
 IsConnection R c (Ok u) = (end : Result ⊤ RunFault) × (end ≢ Err run.NoMemory) × IsRun R MAX_READS c end
 IsConnection R c (Err NoMemory) = IsRun R MAX_READS c (Err run.NoMemory)

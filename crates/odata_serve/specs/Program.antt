@@ -27,7 +27,7 @@ IsAnswer l c (Err (Run fault)) = RunsOver l c (Err fault)
 IsAnswer l c (Err (Folder fault)) = IsFolderFault l fault × IsStill c
 IsAnswer l c r = ⊥
 
--- what follows the target in the request of a query: one GET, behind which the connection closes
+-- what follows the target in the request of a query: one GET, after which the connection closes
 abbrev pub request_end : List ℕ
 request_end =
     codes " HTTP/1.1" ++ line_end

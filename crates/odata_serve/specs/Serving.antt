@@ -34,7 +34,7 @@ TellsPort s = (port : ℕ) × (s.listener_after.port ≡ Some port) × (port < 2
 abbrev pub FailsToTell : Serving → Type 0
 FailsToTell s = (port : ℕ) × (s.listener_after.port ≡ Some port) × (n : ℕ) × HasFailed s.sink s.sink_after (take n (port_line port))
 
--- so many connections were answered, where the count was not full
+-- `connections` connections were answered, if the count was not full
 abbrev pub CountsAnswers : ℕ → ListenerOf → ListenerOf → Type 0
 CountsAnswers n old new = old.answered + n < 2 ^ 64 → new.answered ≡ old.answered + n
 
@@ -42,7 +42,7 @@ CountsAnswers n old new = old.answered + n < 2 ^ 64 → new.answered ≡ old.ans
 abbrev pub AnswersFewer : ℕ → ListenerOf → ListenerOf → Type 0
 AnswersFewer most old new = (n : ℕ) × (n < most) × CountsAnswers n old new
 
--- how answering so many connections in turn ended
+-- how answering `connections` connections in turn ended
 abbrev pub AnswersInTurn : ℕ → ListenerOf → ListenerOf → Result ⊤ ProgramFault → Type 0
 AnswersInTurn connections old new (Ok u) = CountsAnswers connections old new × (new.failed ≡ old.failed)
 AnswersInTurn connections old new (Err Device) = AnswersFewer connections old new × Counts old.failed new.failed
@@ -64,7 +64,7 @@ IsTold s (Err Device) = HasNoPort s ⊎ (FailsToTell s × IsIdle s)
 IsTold s (Err NoMemory) = (s.sink_after ≡ s.sink) × IsIdle s
 IsTold s r = ⊥
 
--- How serving so many connections ended: before the port was told, or behind its line.
+-- How serving `connections` connections ended: before the port was printed, or after its line.
 abbrev pub IsServed : ℕ → Serving → Result ⊤ ProgramFault → Type 0
 IsServed connections s (Ok u) = TellsPort s × AnswersInTurn connections s.listener s.listener_after (Ok u)
 IsServed connections s (Err fault) = IsTold s (Err fault) ⊎ (TellsPort s × AnswersInTurn connections s.listener s.listener_after (Err fault))

@@ -19,7 +19,7 @@ pub record AreFew (tokens : List TokenOf) : Type 0 where
   pub few : length tokens ≤ 1_024
   pub short : AreShort tokens
 
--- and those behind the first
+-- and those after the first
 behind : {t : TokenOf} {tokens : List TokenOf} → AreFew (t ∷ tokens) → AreFew tokens
 behind {t} {tokens} f = record { few = omega (arith, f.few); short = f.short.1 }
 
@@ -31,7 +31,7 @@ expression r f = let size = tree_size r in let short = tree_short r f.short in (
 
 -- ---- lists
 
--- an item is such a one, and few tokens with short texts are left behind it
+-- an item is such a one, and few tokens with short texts are left after it
 abbrev Keeps : {A : Type 0} → (List TokenOf → A → List TokenOf → Type 0) → (A → Type 0) → Type 0
 Keeps {A} Item P = (before after : List TokenOf) (x : A) → Item before x after → AreFew before → P x × AreFew after
 

@@ -9,7 +9,7 @@ abbrev pub ◌>>=◌ : {A B : Type 0} → Result A TypeFault → (A → Result B
 (Ok x) >>= f = f x
 (Err e) >>= f = Err e
 
--- a cause is told just where it is the cause; want of memory is none
+-- a cause is reported just where it is the cause; out of memory is none
 abbrev pub IsCause : {X : Type 0} → TypeFault → Result X TypeFault → Type 0
 IsCause NoMemory r = Unit {0}
 IsCause e r = r ≡ Err e

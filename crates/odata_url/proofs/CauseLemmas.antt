@@ -1,4 +1,4 @@
--- No definition tells want of memory.
+-- No definition says that memory ran out.
 use Rattle.std.proofs.Common.{◌≡◌, ◌≢◌, ◌⊎◌, inl, inr, ℕ, Bool, true, false, cond, List, [], ◌∷◌, ◌++◌, Option, Some, None, Result, Ok, Err, refl}
 use Rattle.std.specs.Prelude.{filter, drop}
 use Rattle.std.specs.Str.{is_utf8}
@@ -11,7 +11,7 @@ use Rattle.odata_url.specs.Cuts.{in_front, behind, parts}
 use Rattle.odata_url.specs.OptionName.{begins_with, dollar_sign, plain_name, served_option, or_custom, option_of_name}
 use Rattle.odata_url.specs.Target.{slash, question_mark, ampersand, equals_sign, QueryOption, TargetOf, is_absolute, with_slash, behind_authority, behind_scheme, origin_form, segments_of, with_value, option_of, stands_among, with_option, with_part, with_parts, has_bytes, options_of, target_of}
 
--- it is not want of memory that it tells
+-- it does not say that memory ran out
 abbrev HasMemory : {A : Type 0} → Result A UrlFault → Type 0
 HasMemory read = read ≡ Err NoMemory → ⊥
 

@@ -28,7 +28,7 @@ digit_not_percent c hex = grind (arith, nat_tests)
 past_byte : (percent hex broken : Bool) (f : List ℕ → List ℕ) (o other : Option (List ℕ)) → percent ≡ false → broken ≡ is_none o → ((percent && not hex) || broken) ≡ is_none (cond percent other (option_map f o))
 past_byte percent hex broken f o other none same = rw none (same ∙ sym (is_none-option_map f o))
 
--- a `%` with no digits behind it begins the text
+-- a `%` with no digits after it begins the text
 at_broken : (percent hex broken : Bool) (whole other : Option (List ℕ)) → percent ≡ true → hex ≡ false → ((percent && not hex) || broken) ≡ is_none (cond percent (cond hex whole None) other)
 at_broken percent hex broken whole other is bad = rw (is, bad)
 
@@ -72,7 +72,7 @@ is_none-from_map f o some = sym (is_none-option_map f o) ∙ some
 hex_digit : (c : ℕ) → is_ascii_hexdigit c ≡ true → digit_value c < 16
 hex_digit c hex = grind (arith, nat_tests)
 
--- decoding gives a byte that is no `%`, and then what it gives of the text behind it
+-- decoding gives a byte that is no `%`, and then what it gives of the text after it
 decode-byte : (b : ℕ) (text : List ℕ) (o other : Option (List ℕ)) → (b == percent_sign) ≡ false → o ≡ Some (percent_decode text) → cond (b == percent_sign) other (option_map (λ octets. b ∷ octets) o) ≡ Some (percent_decode (b ∷ text))
 decode-byte b text o other none is = rw (none, is) (ap Some (sym (percent_decode_not_percent b text (eqb-false b percent_sign none))))
 

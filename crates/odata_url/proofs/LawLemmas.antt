@@ -16,7 +16,7 @@ octets_after : (first : ℕ) (o : Option (List ℕ)) (octets : List ℕ) → opt
 octets_after first None octets whole = cc
 octets_after first (Some rest) octets whole = (rest, refl, cc)
 
--- where a test fails, what stands behind it is there
+-- where a test fails, what stands after it is there
 some-if : {A : Type 0} (test : Bool) (o other : Option A) (y : A) → test ≡ true → cond test o other ≡ Some y → o ≡ Some y
 some-if test o other y is whole = sym (cond-true test o other is) ∙ whole
 

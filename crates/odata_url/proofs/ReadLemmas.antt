@@ -85,7 +85,7 @@ option_of-IsUtf8 part option made =
     let named = step (option_of_name name.found) (λ option. with_value option (behind equals_sign part)) (Some option) name.leads in
     with_value-IsUtf8 named.found (behind equals_sign part) option named.leads
 
--- options that stand behind others, none of them twice
+-- options that stand after others, none of them twice
 record Behind (earlier options : List QueryOption) : Type 0 where
   pub more : List QueryOption
   pub all : options ≡ earlier ++ more

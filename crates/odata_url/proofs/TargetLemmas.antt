@@ -71,7 +71,7 @@ pub options_of-nothing : options_of [] ≡ Ok []
 unfolding options_of
 options_of-nothing = refl
 
--- the option at a place, and those behind it
+-- the option at a place, and those after it
 is_among-at : (options : List (OptionName × String Global)) (name : OptionName) (i : ℕ) (option : OptionName × String Global) → i < length options → option ≡ get_or options i option → stands_among (map option_view (drop i options)) name ≡ (bytes_eq (option_text option.0) (option_text name) || stands_among (map option_view (drop (i + 1) options)) name)
 is_among-at options name i option within is =
     let next : drop i options ≡ option ∷ drop (i + 1) options = drop_more options i option within ∙ ap (λ first. first ∷ drop (i + 1) options) (sym is) in

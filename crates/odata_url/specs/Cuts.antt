@@ -11,7 +11,7 @@ is_byte byte b = b == byte
 abbrev pub in_front : ℕ → List ℕ → List ℕ
 in_front byte text = before_first (is_byte byte) text
 
--- the text behind it; nothing where there is none
+-- the text after it; nothing where there is none
 abbrev pub behind : ℕ → List ℕ → List ℕ
 behind byte text = after_first (is_byte byte) text
 

@@ -18,7 +18,7 @@ abbrev pub begins_with_digits : List ℕ → Bool
 begins_with_digits (high ∷ low ∷ text) = is_ascii_hexdigit high && is_ascii_hexdigit low
 begins_with_digits text = false
 
--- the octets that a text stands for; none where a `%` has not two hexadecimal digits behind it
+-- the octets that a text stands for; none where a `%` has not two hexadecimal digits after it
 abbrev pub octets_of : List ℕ → Option (List ℕ)
 octets_of [] = Some []
 octets_of (b ∷ high ∷ low ∷ text) =

@@ -69,7 +69,7 @@ ReadsBack = (target : TargetOf) → IsTarget target → target_of (printed_targe
 abbrev pub ReadsTargets : Type 0
 ReadsTargets = (bytes : List ℕ) (target : TargetOf) → target_of bytes ≡ Ok target → IsTarget target
 
--- a target says something or has a first fault, and that is no want of memory
+-- a target says something or has a first fault, and that is not that memory ran out
 abbrev pub ReadingOrFault : Type 0
 ReadingOrFault = (bytes : List ℕ)
     → ((target : TargetOf) × (target_of bytes ≡ Ok target)) ⊎ ((fault : UrlFault) × (target_of bytes ≡ Err fault) × (fault ≢ NoMemory))

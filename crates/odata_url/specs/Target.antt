@@ -49,7 +49,7 @@ target_view target = record {
 abbrev pub ends_authority : ℕ → Bool
 ends_authority b = b == slash || b == question_mark
 
--- the text behind a leading authority
+-- the text after a leading authority
 abbrev pub behind_authority : List ℕ → List ℕ
 behind_authority text = drop (position_or_len ends_authority text) text
 

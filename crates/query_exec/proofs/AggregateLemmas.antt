@@ -59,7 +59,7 @@ aggregate_makes places aggregates r made names rows count =
     ∙ ap (λ ns. Some (record r { names = ns; rows = gathered_rows places aggregates r.rows })) (sym names) ∙ ap (λ rs. Some (record r { names = made.names; rows = rs })) (sym rows)
     ∙ ap (λ n. Some (record made { count = n })) (sym count)
 
--- it fits a result of so many columns
+-- it fits a result of `width` columns
 aggregate_fits : (r : ResultOf) (width : ℕ) → length r.names ≡ width → length r.rows < 2 ^ 64 → (a : Aggregate) → AggregateFits r a → FitsAll width r.rows a
 aggregate_fits r width long few Count fit = few
 aggregate_fits r width long few (SumOfIntegers place) fit = (subst (λ n. place < n) long fit.0, fit.1)

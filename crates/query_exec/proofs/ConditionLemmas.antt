@@ -22,7 +22,7 @@ above : (es : List TruthExprOf) (steps : List NodeOf) (r : ResultOf) (passed : O
 above es steps r None each = refl
 above es steps r (Some rows) each = each rows
 
--- the steps behind the conditions are given what passes these
+-- the steps after the conditions are given what passes these
 pub steps_behind : (es : List TruthExprOf) (steps : List NodeOf) (r : ResultOf) (rows : List (List CellValue))
     → nodes_result (condition_nodes es ++ steps) (record r { rows = rows })
     ≡ option_and_then (λ kept. nodes_result steps (record r { rows = kept })) (passing_all es rows)
@@ -36,7 +36,7 @@ conditions_give es r rows kept is =
     ap (λ ns. nodes_result ns (record r { rows = rows })) (sym (append-nil (condition_nodes es)))
     ∙ steps_behind es [] r rows ∙ ap (option_and_then (λ k. nodes_result [] (record r { rows = k }))) is
 
--- ---- the columns that are picked behind the conditions
+-- ---- the columns that are picked after the conditions
 
 pub selected_append : (picked : Option (List ℕ)) (xs ys : List (List CellValue)) → selected_rows picked (xs ++ ys) ≡ selected_rows picked xs ++ selected_rows picked ys
 selected_append None xs ys = refl
@@ -56,7 +56,7 @@ selected_joined picked (Some xs) (Some ys) = ap (λ rows. Some rows) (selected_a
 abbrev pub selected_result : Option (List ℕ) → ResultOf → ResultOf
 selected_result picked r = record { names = selected_names picked r.names; rows = selected_rows picked r.rows; count = r.count }
 
--- is what the steps behind are given
+-- is what the steps after are given
 pub steps_selected : (picked : Option (List ℕ)) (steps : List NodeOf) (r : ResultOf) → nodes_result (select_nodes picked ++ steps) r ≡ nodes_result steps (selected_result picked r)
 steps_selected None steps r = refl
 steps_selected (Some places) steps r = refl
@@ -71,7 +71,7 @@ selected_of : (picked : Option (List ℕ)) (steps : List NodeOf) (r : ResultOf) 
 selected_of picked steps r None = refl
 selected_of picked steps r (Some kept) = steps_selected picked steps (record r { rows = kept })
 
--- the steps behind the conditions and the columns that are picked are given what passes the former in the latter
+-- the steps after the conditions and the columns that are picked are given what passes the former in the latter
 pub parts_give : (es : List TruthExprOf) (picked : Option (List ℕ)) (steps : List NodeOf) (r : ResultOf) (rows : List (List CellValue))
     → nodes_result (condition_nodes es ++ select_nodes picked ++ steps) (record r { rows = rows })
     ≡ option_and_then (λ kept. nodes_result steps (record (selected_result picked r) { rows = kept })) (option_map (selected_rows picked) (passing_all es rows))

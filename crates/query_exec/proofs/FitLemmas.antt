@@ -57,7 +57,7 @@ block_fits run plan table handed block has rows same k d h =
     (has.fits (row ∷ []) (one_row table.schema row is)) in
     conditions_fit (conditions_of run) above (table_names table.schema) _ row fit
 
--- ---- the columns that a plan picks behind its conditions
+-- ---- the columns that a plan picks after its conditions
 
 picked_within : (picked : Option (List ℕ)) (steps : List NodeOf) (schema : SchemaOf) (rows : List (List CellValue))
     → NodesFit (select_nodes picked ++ steps) (table_result schema rows) → IfSome picked (All (λ place. place < length schema.columns))

@@ -62,7 +62,7 @@ wanted_is_first (Some (suc room)) es rows [] = refl
 wanted_is_first (Some (suc room)) es rows (n ∷ ns) =
     first_of (suc room == 0) n (reached es (suc room - count_by (passes_each es) (block_at rows n)) rows ns) (eqb-suc-zero room)
 
--- behind it the stop looks for fewer rows
+-- after it the stop looks for fewer rows
 pub needed_behind : (room : Option ℕ) (es : List TruthExprOf) (rows : List (List CellValue)) (left : List ℕ) (n : ℕ)
     → slice_get (up_to room es rows left) 0 ≡ Some n
     → up_to (room_behind room (count_by (passes_each es) (block_at rows n))) es rows (drop 1 left) ≡ drop 1 (up_to room es rows left)

@@ -79,7 +79,7 @@ one_step nodes es picked steps n first parts = record {
   no_more = still_none picked steps n parts.no_more first;
 }
 
--- any step behind others, or behind what is picked
+-- any step after others, or after what is picked
 pub step_behind : (nodes : List NodeOf) (es : List TruthExprOf) (m : NodeOf) (picked : Option (List ℕ)) (steps : List NodeOf) (n : NodeOf)
     → ArePartsOf nodes es picked (m ∷ steps) → ArePartsOf (nodes ++ n ∷ []) es picked (m ∷ steps ++ n ∷ [])
 step_behind nodes es m picked steps n parts = record {
@@ -94,7 +94,7 @@ step_behind_pick nodes es places steps n parts = record {
   no_more = refl;
 }
 
--- a step that is no condition, or comes behind others
+-- a step that is no condition, or comes after others
 pub data IsStep (picked : Option (List ℕ)) (steps : List NodeOf) (n : NodeOf) : Type 0 where
   no_condition : leading (n ∷ []) ≡ [] → IsStep picked steps n
   behind_pick : is_none picked ≡ false → IsStep picked steps n

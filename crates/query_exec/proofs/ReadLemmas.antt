@@ -1,4 +1,4 @@
--- What a run has that was handed the first so many of the blocks that are needed.
+-- What a run has that was handed the first of the blocks that are needed.
 use Rattle.std.proofs.Common.{◌≡◌, ℕ, ◌+◌, Option, Some, None, List, [], ◌++◌, map, drop, take, sym, ap, ◌∙◌, subst, arith, append-nil}
 use Rattle.std.specs.Prelude.{count_by, option_and_then, option_map, slice_get}
 use Rattle.std.proofs.lemmas.List.{get_or_append_left, length-append, take-append-drop}
@@ -52,7 +52,7 @@ handed_parts plan table handed =
     let blocks = needed plan table.rows in
     ap (rows_of_blocks table.rows) (sym (take-append-drop handed blocks)) ∙ flat_map-append (block_at table.rows) (take handed blocks) (drop handed blocks)
 
--- the rows of the first so many blocks that are needed are rows of a table
+-- the rows of the first `handed` blocks that are needed are rows of a table
 pub handed_are_rows : ScansReadTableRows → (plan : PlanOf) (table : TableOf) (handed : ℕ) → AreTableRows table.schema table.rows
     → AreTableRows table.schema (handed_rows plan table handed)
 handed_are_rows scans plan table handed are =

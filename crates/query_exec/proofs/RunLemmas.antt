@@ -1,4 +1,4 @@
--- What the calls of a run give behind the blocks that were handed in.
+-- What the calls of a run give after the blocks that were handed in.
 use Rattle.std.proofs.Common.{◌≡◌, ◌⊎◌, inl, inr, ℕ, ◌+◌, ◌<◌, true, false, Option, Some, None, List, ◌++◌, length, drop, map, refl, sym, ap, ◌∙◌, subst, arith}
 use Rattle.std.specs.Prelude.{IsErrAnd, Result, Ok, Err, count_by, is_some, max, option_and_then, option_map}
 use Rattle.std.proofs.Math.Nat.{le-max_right, max-eq_left, max-eq_right}
@@ -44,7 +44,7 @@ max_cases a b = elim (cases_lt a b) [
   | inr more ↦ inl (max-eq_left more)
 ]
 
--- the call behind which no block is needed is the last
+-- the call after which no block is needed is the last
 last_none : (plan : PlanOf) (table : TableOf) (handed : ℕ) → handed < run_length plan table → next_block plan table handed ≡ None → handed + 1 ≡ run_length plan table
 last_none plan table handed within beyond =
     let over = none_behind (needed plan table.rows) handed beyond in
@@ -61,7 +61,7 @@ some_next : (next : Option ℕ) → is_some next ≡ true → (number : ℕ) × 
 some_next None is = absurd (cc)
 some_next (Some number) is = (number, refl)
 
--- of so many calls before
+-- of `handed` calls before
 pub answers : (run new : Run) (plan : PlanOf) (table : TableOf) (handed blocks : ℕ) (result : Result (Option RowsOf) ExecFault) → HasTakenBlocks run plan table blocks
     → ((number : ℕ) → next_block plan table blocks ≡ Some number → blocks ≡ handed + 1) → (next_block plan table blocks ≡ None → handed + 1 ≡ run_length plan table)
     → RunGoesOn run new result → StepsTo plan table handed new result
@@ -93,7 +93,7 @@ module _ (run : Run) (plan : PlanOf) (table : TableOf) (handed : ℕ) (stands : 
   pub ready_behind_none : NodesInTurn → ScansReadTableRows → wanted_block run ≡ None → IsReady run
   ready_behind_none turn scans beyond = is_ready turn scans run plan table handed stands.read beyond
 
-  -- ---- behind a block
+  -- ---- after a block
 
   module _ (law : ConditionsInTurn) (block : TableOf) (is : Some block ≡ handed_block plan table handed) where
     read_behind : (new : Run) → HasTakenIn run new block.rows → HasTakenBlocks new plan table (handed + 1)

@@ -18,7 +18,7 @@ use Rattle.query_exec.specs.Picked.{selected_rows}
 use Rattle.query_exec.specs.Sink.{room_behind, spare_of, AreFound, HasPiece, PushesOn, SinkGives}
 use Rattle.query_exec.proofs.CountLemmas.{first_selected, selected_long}
 
--- ---- a piece of rows and of others behind them
+-- ---- a piece of rows and of others after them
 
 drop_parts : (n : ℕ) (xs ys : List (List CellValue)) → drop n (xs ++ ys) ≡ drop n xs ++ drop (n - length xs) ys
 drop_parts zero xs ys = let none : 0 - length xs ≡ 0 = omega arith in ap (λ k. xs ++ drop k ys) (sym none)
@@ -34,7 +34,7 @@ take_parts (suc n) (x ∷ xs) ys =
     let less : suc n - suc (length xs) ≡ n - length xs = omega arith in
     ap (λ zs. x ∷ zs) (take_parts n xs ys ∙ ap (λ k. take n xs ++ take k ys) (sym less))
 
--- the first so many behind others
+-- the first rows after others
 both_parts : (skip top : ℕ) (xs ys : List (List CellValue))
     → take top (drop skip (xs ++ ys)) ≡ take top (drop skip xs) ++ drop (skip - length xs) (take ((skip + top) - length xs) ys)
 both_parts skip top xs ys =
@@ -44,7 +44,7 @@ both_parts skip top xs ys =
     ∙ ap (λ rows. rows ++ drop (skip - length (take (skip + top) xs)) more) (drop-take skip top xs)
     ∙ ap (λ n. take top (drop skip xs) ++ drop n more) front
 
--- where a piece is of so many first rows that there are fewer, it is of all
+-- if a piece is of the first rows, and there are fewer, it is of all
 sized : (skip top : ℕ) (b : Bool) (xs ys : List (List CellValue)) → nat_lt (skip + top) (2 ^ 64) ≡ b → length (xs ++ ys) < 2 ^ 64
     → take top (drop skip (xs ++ ys)) ≡ take top (drop skip xs) ++ drop (skip - length xs) (first_rows (room_behind (cond b (Some (skip + top)) None) (length xs)) ys)
 sized skip top true xs ys is few = both_parts skip top xs ys

@@ -18,7 +18,7 @@ use Rattle.query_exec.specs.Picked.{selected_rows}
 use Rattle.query_exec.specs.Sink.{sorted_items, MayPush, PushesOn, SinkGives}
 use Rattle.query_exec.specs.Steps.{without_count}
 
--- rows of a block are kept behind others that are in runs
+-- rows of a block are kept after others that are in runs
 pub has_more_rows : (old : SortedSink) (mid : Kept) (block : TableOf) (found : Passed) → MayPush (sink.Sorted old) block found
     → HasKept old.kept mid (selected_rows (kept_places old.kept) (numbered found.rows block.rows)) → HasMoreRows (sorted_items old) old.runs mid.columns.rows
 has_more_rows old mid block found may kept = record {

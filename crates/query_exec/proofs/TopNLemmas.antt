@@ -109,7 +109,7 @@ numbered_fit P rows numbers fit within = λ k d h.
     let inside : k < length numbers = omega (arith, h, long) in
     subst P (sym (get_or-map (λ n. get_or rows n []) numbers k 0 d inside)) (fit (get_or numbers k 0) [] (within k 0 inside))
 
--- behind rows of which the first are the same the first are the same
+-- after rows of which the first are the same the first are the same
 best_behind : FaultsAreForeseen → BestInPieces → (items : List Item) (most : ℕ) (xs ys more : List (List CellValue)) → none_can_fault items ≡ true → best_rows items most xs ≡ best_rows items most ys
     → best_rows items most (xs ++ more) ≡ best_rows items most (ys ++ more)
 best_behind faults law items most xs ys more safe e =
@@ -150,7 +150,7 @@ cut_to law s kept cutoff numbers fit best has late = record {
   first = ap (best_rows (sink_items s) s.most) has.rows ∙ best_cut law (sink_items s) s.most s.kept.columns.rows (numbered numbers s.kept.columns.rows) best.rows;
 }
 
--- what the items compute on rows of a block that may be among the first fits, behind rows where it does
+-- what the items compute on rows of a block that may be among the first fits, after rows where it does
 pub block_fits : (old : TopNSink) (mid : Kept) (block : TableOf) (found : Passed) (numbers : List ℕ) → MayPush (sink.TopN old) block found
     → AreTimely old block.rows found.rows numbers → HasKept old.kept mid (selected_rows (kept_places old.kept) (numbered numbers block.rows))
     → ItemsFit (sink_items old) mid.columns.rows

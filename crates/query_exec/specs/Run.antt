@@ -39,7 +39,7 @@ handed_block plan table handed = option_map (block_of table) (next_block plan ta
 abbrev pub run_length : PlanOf → TableOf → ℕ
 run_length plan table = max 1 (length (needed plan table.rows))
 
--- the rows of the first so many blocks that are needed
+-- the rows of the first `handed` blocks that are needed
 abbrev pub handed_rows : PlanOf → TableOf → ℕ → List (List CellValue)
 handed_rows plan table handed = rows_of_blocks table.rows (take handed (needed plan table.rows))
 
@@ -62,7 +62,7 @@ pub record HasPassed (run : Run) (passed : Option (List (List CellValue))) : Typ
   pub faulted : run.faulted ≡ is_none passed
   pub pushed : IfSome passed (HasPushed run.sink)
 
--- The run was handed the first so many of the blocks that the plan needs of the table: what passes of their rows went to the sink; and up to its stop it is
+-- The run was handed the first `handed` of the blocks that the plan needs of the table: what passes of their rows went to the sink; and up to its stop it is
 -- left with the other blocks that are needed.
 pub record HasTakenBlocks (run : Run) (plan : PlanOf) (table : TableOf) (handed : ℕ) : Type 0 where
   pub plan_is : condition_nodes (conditions_of run) ++ select_nodes (places_of run) ++ steps_of run ≡ plan.nodes
@@ -101,7 +101,7 @@ pub data MayBeHanded (run : Run) (block : Option TableOf) : Type 0 where
   failed : RunIsRefused run → MayBeHanded run block
   awaited : IsAwaited run block → MayBeHanded run block
 
--- What a run answers that was handed so many blocks before: Done with the answer, or the division by zero, at the call of its length, and
+-- What a run answers that was handed `handed` blocks before: Done with the answer, or the division by zero, at the call of its length, and
 -- More before it.
 abbrev pub AdvancesTo : PlanOf → TableOf → ℕ → Run → Result Step ExecFault → Type 0
 AdvancesTo plan table handed run (Ok More) = (handed + 1 < run_length plan table) × StandsFor run plan table (handed + 1)

@@ -86,7 +86,7 @@ HasPushed (Aggregate sink) rows = HasGathered sink rows
 
 -- ---- a push
 
--- how many rows are looked for after so many
+-- how many rows are looked for after `passed` rows
 abbrev pub room_behind : Option ℕ → ℕ → Option ℕ
 room_behind None passed = None
 room_behind (Some room) passed = Some (room - passed)
@@ -96,7 +96,7 @@ abbrev pub spare_of : Sink → Option ℕ
 spare_of (Slice sink) = room_behind (room_of sink.slice.skip sink.slice.top false) sink.count
 spare_of sink = None
 
--- of these rows of a block the first ones were found by their numbers, so many where that is limited, and how many they are
+-- of these rows of a block the first ones were found by their numbers, `spare` if that is given, and how many they are
 pub record AreFound (spare : Option ℕ) (rows : List (List CellValue)) (found : Passed) (passing : List (List CellValue)) : Type 0 where
   pub within : All (λ n. n < length rows) found.rows
   pub first : numbered found.rows rows ≡ first_rows spare passing

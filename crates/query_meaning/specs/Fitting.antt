@@ -9,7 +9,7 @@ use Rattle.odata_query.specs.declared.aggregate.TheConstants.{MOST_ROWS}
 use Rattle.odata_query.specs.Query.{QueryOf, TypedOf, query_typing}
 use Rattle.odata_types.specs.Input.{IsQueried, IsQueriedItem, IsQueriedTransformation, IsRowOf, IsTableRow}
 
--- numbers of at most so many rows, of which the sums, also of some of them, fit 128 bits
+-- numbers of at most `rows` rows, of which the sums, also of some of them, fit 128 bits
 pub record AreSummable (numbers : List ℤ) (rows : ℕ) : Type 0 where
   pub bound : ℕ
   pub each : All (λ n. unsigned_abs n ≤ bound) numbers

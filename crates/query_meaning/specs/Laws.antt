@@ -32,7 +32,7 @@ pub record BoundsHold : Type 0 where
       → IsInput inputs → IsRowOf inputs row → IsQueried e → typing inputs e ≡ Ok (typed.decimal n bound) → IsWithin bound (number_outcome n row)
 
 -- A filter has no rows to give just where it divides by zero on some row. Else a row is kept just where it is one of the rows and its outcome is
--- true. What is kept of rows and of rows behind them is what is kept of the first, and then what is kept of the others: so the rows that are
+-- true. What is kept of rows and of rows after them is what is kept of the first, and then what is kept of the others: so the rows that are
 -- kept stay in their order, each as often as it was there.
 pub record TrueRowsPass : Type 0 where
   pub fault : (e : TruthExprOf) (rows : List (List CellValue)) → (passing e rows ≡ None) ↔ Any (λ row. truth_outcome e row ≡ None) rows
@@ -50,8 +50,8 @@ pub record RowsAreInOrder : Type 0 where
   pub stable : (items : List Item) (rows : List (List CellValue)) → IsStable (rows_cmp items) rows (sorted (rows_cmp items) rows)
 
 -- Each row is in one group, that of its own values: no two groups have the same values, and each has a row. A row alone is the group of its values, and of
--- rows and rows behind them a group has those of the first, and then those of the others: so its rows stay in their order, each as often as it was there.
--- The groups come by their first rows: those of rows come first, and then those that begin behind them. All groups together are the rows.
+-- rows and rows after them a group has those of the first, and then those of the others: so its rows stay in their order, each as often as it was there.
+-- The groups come by their first rows: those of rows come first, and then those that begin after them. All groups together are the rows.
 pub record RowsAreInGroups : Type 0 where
   pub distinct : (places : List ℕ) (rows : List (List CellValue)) → IsDistinct same_values (group_values places rows)
   pub grouped : (places : List ℕ) (rows : List (List CellValue)) (row : List CellValue) → Contains rows row → Contains (group_values places rows) (values_at places row)
@@ -74,7 +74,7 @@ added (decimal m) (decimal n) = decimal (m +ℤ n)
 added a _ = a
 
 -- The sum of the numbers of a kind in a column: of no rows it is null, of one row the number there, and null where the row has none. Of rows and rows
--- behind them it is the sum of the first and the sum of the others, together.
+-- after them it is the sum of the first and the sum of the others, together.
 pub record NumbersAddUp (kind : ℤ → CellValue) (sum : ℕ → Aggregate) : Type 0 where
   pub none : (place : ℕ) → computed_value [] (sum place) ≡ null
   pub one : (place : ℕ) (row : List CellValue) (n : ℤ) → value_at row place ≡ kind n → computed_value (row ∷ []) (sum place) ≡ kind n

@@ -10,7 +10,7 @@ use Rattle.query_plan.specs.Plan.{NodeOf, SliceOf, node_result, nodes_result, sl
 use Rattle.query_plan.specs.Rewrite.{best_nodes, chosen, room_of, rows_needed}
 use Rattle.query_plan.proofs.MeaningLemmas.{under}
 
--- of so many first rows a piece takes what it takes of all
+-- of the first `skip + top` rows a piece takes what it takes of all
 few_first : (skip top : ℕ) (rows : List (List CellValue)) → take top (drop skip (take (skip + top) rows)) ≡ take top (drop skip rows)
 few_first skip top rows = ap (take top) (drop-take skip top rows) ∙ take-take top top (drop skip rows) (omega arith)
 
@@ -43,7 +43,7 @@ module _ (items : List Item) (s : SliceOf) (ns : List NodeOf) where
   piece_result None r e = refl
   piece_result (Some most) r e = piece_of_best r.names r.count most (ordered items r.rows) e
 
-  -- what the step behind a piece of the best rows finds
+  -- what the step after a piece of the best rows finds
   behind_best : (names : List (List ℕ)) (count : Option ℕ) (most : ℕ) (o : Option (List (List CellValue))) → room_of s.skip s.top s.counts ≡ Some most
       → ((made : ResultOf) → option_map (under names count) o ≡ Some made → NodesFit (slicing s ∷ ns) made)
       → (made : ResultOf) → option_map (under names count) (option_map (take most) o) ≡ Some made → NodesFit (slicing s ∷ ns) made

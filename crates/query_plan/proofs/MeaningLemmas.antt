@@ -154,7 +154,7 @@ rest_result q names rows =
 
 -- ---- the whole
 
--- the steps behind those of `$apply` and `$filter`
+-- the steps after those of `$apply` and `$filter`
 abbrev pub last_nodes : Bool → TypedOf → List NodeOf
 last_nodes b q = cond b count_nodes (order_nodes q.order ++ slice_nodes (asked_slice q) ++ select_nodes q.select)
 

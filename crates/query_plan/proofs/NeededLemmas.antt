@@ -52,7 +52,7 @@ same_conditions : (es fs : List TruthExprOf) → ((row : Row) → passes_each es
 same_conditions es fs same None rows numbers = refl
 same_conditions es fs same (Some room) rows numbers = same_reached es fs same room rows numbers
 
--- ---- a stop behind all rows
+-- ---- a stop after all rows
 
 all_reached : (es : List TruthExprOf) (room : ℕ) (rows : List Row) (numbers : List ℕ) → length (rows_of_blocks rows numbers) < room → reached es room rows numbers ≡ numbers
 all_reached es room rows [] h = refl
@@ -66,12 +66,12 @@ all_reached es room rows (n ∷ ns) h =
 
 -- ---- the stop of a query
 
--- a stop behind all rows
+-- a stop after all rows
 abbrev IsBeyond : Option ℕ → Type 0
 IsBeyond None = ⊥
 IsBeyond (Some room) = 2 ^ 64 ≤ room
 
--- the two stops are one, or the second is behind all rows, where the first is none
+-- the two stops are one, or the second is after all rows, where the first is none
 abbrev AreLike : Option ℕ → Option ℕ → Type 0
 AreLike o p = (o ≡ p) ⊎ ((o ≡ None) × IsBeyond p)
 
@@ -130,7 +130,7 @@ stop_of_last q [] false =
 
 -- ---- the steps of a query
 
--- behind the filters that come first
+-- after the filters that come first
 stop_of_steps : (ts : List TypedTransformationOf) (filter : Option TruthExprOf) (ns : List NodeOf)
     → early_stop (apply_nodes ts ++ filter_nodes filter ++ ns) ≡ cond (list_all is_filter ts) (early_stop ns) None
 stop_of_steps [] None ns = refl

@@ -39,7 +39,7 @@ module _ (inputs : List InputOf) where
   abbrev pub IsThere : TypedExprOf → Type 0
   IsThere t = IfSome (plain_column t) (λ place. place < length inputs)
 
-  -- behind a step whatever it tells
+  -- after a step whatever it tells
   any_then : {X : Type 0} (r : Result X TypeFault) (f : X → Typing) → ((x : X) → Told IsThere (f x)) → Told IsThere (r >>= f)
   any_then r f each = told_then (λ _. Unit {0}) IsThere r f (told_any r) (λ x h. each x)
 

@@ -21,7 +21,7 @@ use Rattle.query_plan.proofs.MeaningLemmas.{under}
 abbrev pub Row : Type 0
 Row = List CellValue
 
--- ---- the steps behind the filters that come first
+-- ---- the steps after the filters that come first
 
 abbrev pub behind : List NodeOf → List NodeOf
 behind [] = []

@@ -198,7 +198,7 @@ module _ (bounds : BoundsHold) (inputs : List InputOf) (input : IsInput inputs) 
   order_fits [] fits r stands = tt
   order_fits (item ∷ items) fits r stands = (fit_items (item ∷ items) fits r stands, λ made e. tt)
 
-  -- the steps behind those of `$apply` and `$filter`
+  -- the steps after those of `$apply` and `$filter`
   last_fit : (q : TypedOf) → ItemsFit q.order → IfSome q.select (AreBelow (length inputs)) → (b : Bool) (r : ResultOf) → Stands inputs r → NodesFit (last_nodes b q) r
   last_fit q items select true r stands = (All-from_recursion (λ place. place < length r.names) [] tt, λ made e. (tt, λ last k. tt))
   last_fit q items select false r stands =

@@ -1,4 +1,4 @@
--- Blocks behind a stop have no say.
+-- Blocks after a stop have no say.
 use Rattle.std.proofs.Common.{◌≡◌, ℕ, zero, suc, ◌+◌, ◌-◌, ◌^◌, Bool, true, false, cond, eqb, Option, Some, None, List, [], ◌∷◌, ◌++◌, length, take, drop, refl, sym, ap, ◌∙◌, arith}
 use Rattle.std.specs.Prelude.{count_by, filter, nat_lt}
 use Rattle.std.proofs.lemmas.Bool.Decides.{nat_tests}
@@ -75,7 +75,7 @@ same_piece skip (Some (suc top)) false room xs ys e same =
     let all : skip + suc top ≡ room = when_some (nat_lt (skip + suc top) (2 ^ 64)) (skip + suc top) room e in
     (piece_of_first skip (suc top) room xs ys all same, refl)
 
--- where the first rows that pass are the same, so is what the steps behind the filters make of them
+-- where the first rows that pass are the same, so is what the steps after the filters make of them
 same_behind : (ns : List NodeOf) (names : List (List ℕ)) (room : ℕ) (xs ys : List Row) → early_stop ns ≡ Some room → take room xs ≡ take room ys
     → nodes_result (behind ns) (under names None xs) ≡ nodes_result (behind ns) (under names None ys)
 same_behind [] names room xs ys e same = absurd (cc)

@@ -27,7 +27,7 @@ use Rattle.query_plan.proofs.TypedLemmas.{filter_over}
 abbrev AllOver : List InputOf → List TruthExprOf → Type 0
 AllOver inputs es = AllByRecursion (IsTruthOver inputs) es
 
--- what holds of the filters that steps behind `$apply` begin with holds of those of the whole
+-- what holds of the filters that steps after `$apply` begin with holds of those of the whole
 abbrev Leads : List InputOf → List TypedTransformationOf × List InputOf → Type 0
 Leads inputs made = (ns : List NodeOf) → AllOver made.1 (leading ns) → AllOver inputs (leading (apply_nodes made.0 ++ ns))
 

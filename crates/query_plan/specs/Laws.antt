@@ -77,7 +77,7 @@ abbrev pub NeededBlocksAreRead : Type 0
 NeededBlocksAreRead = (q : TypedOf) (rows : List (List CellValue)) → length rows < 2 ^ 64 → needed (rewritten (naive_plan q)) rows ≡ needed_blocks q rows
 
 -- Of the blocks that its tests admit a scan reads a front, in order: all of them where it has no stop. Else a block is read just where fewer rows than
--- its stop pass the conditions in the admitted blocks before that one: so none behind the block of the row that is number `stop` among those that pass,
+-- its stop pass the conditions in the admitted blocks before that one: so none after the block of the row that is number `stop` among those that pass,
 -- counted from 1.
 pub record BlocksUpToTheStop : Type 0 where
   pub front : (scan : ScanOf) (conditions : List TruthExprOf) (rows : List (List CellValue))

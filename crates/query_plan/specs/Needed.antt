@@ -41,7 +41,7 @@ abbrev pub last_row : ℕ → ℕ → ℕ
 last_row skip ℕ.zero = 0
 last_row skip top = skip + top
 
--- behind which of the rows on which the conditions are true, counted from 1, no row is asked for
+-- after which of the rows on which the conditions are true, counted from 1, no row is asked for
 abbrev pub query_stop : TypedOf → Option ℕ
 query_stop q = if gives_first_rows q && not (conditions_can_fault q) then option_map (last_row q.skip) q.top else None
 

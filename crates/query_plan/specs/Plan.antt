@@ -55,7 +55,7 @@ plan_view plan = record { scan = scan_view plan.scan; nodes = map node_view plan
 -- ---- what a step makes of a result
 
 -- the rows: those on which a condition is true; one row of aggregates; a row for each group, of its values and then its aggregates; the rows in order; the
--- first so many of these, though the items are evaluated on every row; a piece of the rows; the values of some columns
+-- first of these, up to a count, though the items are evaluated on every row; a piece of the rows; the values of some columns
 abbrev pub node_rows : NodeOf → List (List CellValue) → Option (List (List CellValue))
 node_rows (filtering e) rows = passing e rows
 node_rows (aggregating aggregates) rows = Some (computed_values aggregates rows ∷ [])
@@ -150,7 +150,7 @@ naive_plan q = record {
       ++ (if q.counting then count_nodes else order_nodes q.order ++ slice_nodes (asked_slice q) ++ select_nodes q.select);
 }
 
--- steps behind others
+-- steps after others
 abbrev pub Adds : {A : Type 0} → Vec Node A → List NodeOf → Vec Node A → Type 0
 Adds old made new = map node_view new.items ≡ map node_view old.items ++ made
 

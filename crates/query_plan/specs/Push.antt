@@ -23,7 +23,7 @@ split_nodes (n ∷ ns) = n ∷ ns
 
 -- ---- the stop
 
--- how many rows that pass the filters that come first are looked for, where the step behind them is a piece that counts nothing
+-- how many rows that pass the filters that come first are looked for, where the step after them is a piece that counts nothing
 abbrev pub early_stop : List NodeOf → Option ℕ
 early_stop [] = None
 early_stop (filtering e ∷ ns) = early_stop ns

@@ -25,7 +25,7 @@ abbrev pub rows_needed : NodeOf → Option ℕ
 rows_needed (slicing s) = room_of s.skip s.top s.counts
 rows_needed n = None
 
--- a step before one that takes so many first rows
+-- a step before one that takes the first rows
 abbrev pub chosen : NodeOf → Option ℕ → NodeOf
 chosen (sorting items) (Some most) = choosing items most
 chosen n most = n

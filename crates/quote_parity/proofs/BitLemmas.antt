@@ -1,4 +1,4 @@
--- The bits of a word as truth values, and what the operations on words make of them.
+-- The bits of a word as booleans, and what the operations on words make of them.
 use Rattle.std.proofs.Common.{◌≡◌, ℕ, zero, suc, ◌+◌, ◌-◌, ◌*◌, ◌/◌, ◌%◌, ◌^◌, ◌<◌, ◌≤◌, min, max, Bool, true, not, ◌&&◌, ◌||◌, if◌then◌else◌, ◌==◌, ◌↔◌, refl, sym, ap, ◌∙◌, arith, eq-eqb, ne_eqb, inl, inr, bit_and, bit_or, bit_xor, w64}
 use Rattle.std.specs.Int.{bit_at}
 use Rattle.std.proofs.lemmas.Bool.{cases_eq}

@@ -29,13 +29,13 @@ byte_kinds x =
 
 -- ---- what may follow
 
--- which bytes are faults behind a last byte of these tests
+-- which bytes are faults after a last byte of these tests
 abbrev pub is_fault : Bool → Bool → Bool → Bool → ℕ → Bool
 is_fault outside start quote cr x =
     outside && (((cr && not (x == line_feed)) || ((x == double_quote) && not (quote || start)))
     || (quote && not (((x == double_quote) || ((x == comma) || (x == line_feed))) || (x == carriage_return))))
 
--- behind a CR any but LF
+-- after a CR any but LF
 cr_faults : (start quote : Bool) (x : ℕ) → is_fault true start quote true x ≡ not (x == line_feed)
 cr_faults start quote x =
     elim (cases_eq x line_feed) [
@@ -47,7 +47,7 @@ cr_faults start quote x =
     closed true = refl
     closed false = refl
 
--- behind a double quote any that is plain
+-- after a double quote any that is plain
 quote_faults : (start q c l r : Bool)
     → ((q && false) || not ((q || (c || l)) || r)) ≡ not (not (not (q || c || r || l)))
 quote_faults start true c l r = refl

@@ -1,4 +1,4 @@
--- Masks whose bits say, byte for byte, what may follow and which role it has, are the masks of the block behind the text.
+-- Masks whose bits say, byte for byte, what may follow and which role it has, are the masks of the block after the text.
 use Rattle.std.proofs.Common.{◌≡◌, ◌↔◌, ℕ, zero, suc, ◌+◌, ◌^◌, ◌<◌, ◌≤◌, Bool, true, false, not, ◌&&◌, if◌then◌else◌, ◌==◌, List, [], ◌∷◌, ◌++◌, length, take, drop, Some, refl, sym, ap, ◌∙◌, subst, arith, append_assoc, append-nil, le_refl, length-append, length-drop, inl, inr, ◌⊎◌, eq-eqb, ne_eqb}
 use Rattle.std.specs.Prelude.{slice_get, slice_index, IsTrue}
 use Rattle.std.specs.Int.{bit_at}
@@ -54,7 +54,7 @@ eol_role p x =
 
 -- ---- masks
 
--- what the bits say of the block behind the text
+-- what the bits say of the block after the text
 pub record BitsSay (masks : Masks) (text block : List ℕ) : Type 0 where
   pub sep : (i : ℕ) → i < length block
       → bit masks.sep i ≡ ((not ((carry_of (text ++ take i block)).parity == 1) && true) && (slice_index block i == comma))
@@ -154,7 +154,7 @@ module _ (structure : OneStructure) (follows : WhatFollows) (masks : Masks) (tex
             ap (λ w. text ++ w) (sym (take-append-drop i (take n block)) ∙ ap (λ w. w ++ drop i (take n block)) (take-take i n block h))
             ∙ sym (append_assoc text (take i block) (drop i (take n block)))
 
-    -- the role of a byte hangs on what stands before it
+    -- the role of a byte depends on what stands before it
     role_at : (i : ℕ) → i < n → slice_get roles (length text + i) ≡ Some (following_role (carry_of (front i)) (byte_at i))
     role_at i h =
         sym (slice_get-take (length (front (i + 1))) roles (length text + i) (omega (arith, length-front (i + 1) (omega arith))))

@@ -1,4 +1,4 @@
--- What the words of a step say of the block behind a text, byte for byte: the masks of the block, and the carry behind it.
+-- What the words of a step say of the block after a text, byte for byte: the masks of the block, and the carry after it.
 use Rattle.std.proofs.Common.{◌≡◌, ℕ, zero, suc, ◌+◌, ◌-◌, ◌/◌, ◌%◌, ◌^◌, ◌<◌, ◌≤◌, true, not, ◌&&◌, ◌||◌, if◌then◌else◌, ◌==◌, List, [], ◌∷◌, ◌++◌, length, take, Some, refl, sym, ap, ap₂, ◌∙◌, subst, arith, append_assoc, append-nil, le_refl, bit_and, bit_or, bit_xor}
 use Rattle.std.specs.Prelude.{slice_get, slice_index, count_by}
 use Rattle.std.specs.Int.{bit_at}
@@ -22,14 +22,14 @@ use Rattle.quote_parity.proofs.StepWords.{outside_word, ends_word, starts_word, 
 use Rattle.quote_parity.proofs.KindLemmas.{byte_kinds, is_fault, faults}
 use Rattle.quote_parity.proofs.MaskLemmas.{masks_from_bits}
 
--- ---- a block behind a text
+-- ---- a block after a text
 
 -- one byte more to count
 count_push : (xs : List ℕ) (b : ℕ)
     → count_by (λ x. x == double_quote) xs + (if b == double_quote then 1 else 0) ≡ count_by (λ x. x == double_quote) (xs ++ b ∷ [])
 count_push xs b = omega (arith, sum_by-append (λ x. if x == double_quote then 1 else 0) xs (b ∷ []))
 
--- the words of a step are those of the block behind the text
+-- the words of a step are those of the block after the text
 pub record Given (c : Classes) (n o s k t : ℕ) (text block : List ℕ) : Type 0 where
   pub words : AreWords c n o s k t
   pub classes : AreClasses c block
@@ -120,7 +120,7 @@ module _ {c : Classes} {n o s k t : ℕ} {text block : List ℕ} (g : Given c n 
 
   -- ---- the last byte
 
-  -- the kind of the last byte is told by the bits before
+  -- the kind of the last byte follows from the bits before
   last_is : (i : ℕ) → i ≤ length block → (carry_at i).last ≡ kind_of_tests (before ends s i == 1) (before c.quote k i == 1) (before c.cr t i == 1)
   last_is zero h = ap (λ w. (carry_of w).last) (append-nil text) ∙ sym (ap (λ (v : TextCarry). v.last) g.carry)
   last_is (suc i) h =
@@ -192,12 +192,12 @@ module _ {c : Classes} {n o s k t : ℕ} {text block : List ℕ} (g : Given c n 
           (bit-or (bit_and returns (2 ^ 64 - 1 - c.lf)) (bit_and c.quote (2 ^ 64 - 1 - bit_or quotes starts)) i ∙ ap₂ (λ a b. a || b) bare stray)
           trailing
 
-  -- ---- the carry behind the block
+  -- ---- the carry after the block
 
   behind_block : carry_at (length block) ≡ carry_of (text ++ block)
   behind_block = ap (λ w. carry_of (text ++ w)) (take_all (length block) block (le_refl (length block)))
 
-  -- the top bits of the block are the carry behind it
+  -- the top bits of the block are the carry after it
   carry_behind : step_carry c n (length block) ≡ carry_of (text ++ block)
   carry_behind = ap₂ carry_with parity last ∙ behind_block
     where
@@ -220,7 +220,7 @@ module _ {c : Classes} {n o s k t : ℕ} {text block : List ℕ} (g : Given c n 
           rw (shr_and_one ends top, shr_and_one c.quote top, shr_and_one c.cr top)
           (sym (last_is (suc top) (omega (arith, whole))) ∙ ap (λ i. (carry_at i).last) whole)
 
--- ---- a block of so many bytes
+-- ---- a block of `len` bytes
 
 module _ {c : Classes} {n o s k t len : ℕ} (words : AreWords c n o s k t) (some : 0 < len) (most : len ≤ 64) (text block : List ℕ)
     (carry : carry_with o (last_kind s k t) ≡ carry_of text) (long : length block ≡ len) (classes : AreClasses c block) where

@@ -1,4 +1,4 @@
--- What the masks of a block say of the block behind a text, in the words of the grammar (RFC 4180, section 2).
+-- What the masks of a block say of the block after a text, in the words of the grammar (RFC 4180, section 2).
 use Rattle.std.specs.Prelude.{◌≡◌, ◌↔◌, ℕ, ◌+◌, ◌<◌, ◌≤◌, List, ◌++◌, length, take, drop, Some, slice_get}
 use Rattle.std.specs.Int.{bit_at}
 use Rattle.csv_grammar.specs.Faults.{IsViable, cause_at, HasFault}
@@ -10,7 +10,7 @@ use Rattle.quote_parity.specs.declared.carry.Masks.{Masks}
 abbrev pub MarksRole : ℕ → List Role → Role → Type 0
 MarksRole word roles role = (i : ℕ) → i < length roles → (bit_at word i ≡ 1) ↔ (slice_get roles i ≡ Some role)
 
--- the masks are those of the block behind the text, some continuation of which is in the grammar
+-- the masks are those of the block after the text, some continuation of which is in the grammar
 pub record AreMasks (masks : Masks) (text block : List ℕ) : Type 0 where
   -- the lowest bit of `fault` is the place of the fault in the block, whatever follows the block
   pub place : (n : ℕ) (more : List ℕ) → IsLowest masks.fault n

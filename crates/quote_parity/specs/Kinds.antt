@@ -1,4 +1,4 @@
--- What the words of a carry mean. Each is 0 or 1, and of those of the last byte one at most is 1 behind a text.
+-- What the words of a carry mean. Each is 0 or 1, and of those of the last byte one at most is 1 after a text.
 use Rattle.std.specs.Prelude.{ℕ, ◌<◌, Bool, true, false, ◌==◌}
 use Rattle.csv_grammar.specs.Following.{LastByte, field_start, a_double_quote, a_carriage_return, a_plain}
 

@@ -45,7 +45,7 @@ pub pieces_within : (pieces : List (List ℕ)) (most : ℕ) → longest_of piece
 pieces_within [] most bound = tt
 pieces_within (piece ∷ pieces) most bound = (omega (arith, bound), pieces_within pieces most (omega (arith, bound)))
 
--- where the number of all bytes was told, it is their number
+-- where the number of all bytes was reported, it is their number
 pub all_told : (pieces : List (List ℕ)) (all longest : ℕ) → AreSizesOf pieces all longest → (all ≡ 2 ^ 64 - 1 → ⊥) → all ≡ length (concat pieces)
 all_told pieces all longest are other = omega (arith, are.counted, other)
 

@@ -7,7 +7,7 @@ use Rattle.reply_text.specs.Json.{comma_before}
 use Rattle.reply_text.proofs.JsonLemmas.{item_more}
 use Rattle.reply_text.proofs.SizeLemmas.{length-joined}
 
--- one more item behind its comma, of an element at a place
+-- one more item after its comma, of an element at a place
 pub piece_more : {X : Type 0} (f : X → List ℕ) (xs : List X) (x : X) (start before between after : List ℕ) (place : ℕ)
     → before ≡ start ++ join_with_byte 44 (map f (take place xs)) → place < length xs → x ≡ get_or xs place x
     → between ≡ before ++ comma_before place → after ≡ between ++ f x → after ≡ start ++ join_with_byte 44 (map f (take (place + 1) xs))
@@ -23,14 +23,14 @@ pub piece_at_more : {X : Type 0} (f : X → List ℕ) (xs : List X) (d : X) (sta
 piece_at_more f xs d start before between after place so_far within comma_is item_is =
     piece_more f xs (get_or xs place d) start before between after place so_far within (get_or_default xs place d (get_or xs place d) within) comma_is item_is
 
--- the same, of what was laid down with its comma
+-- the same, of what was written with its comma
 pub piece_joined : {X : Type 0} (f : X → List ℕ) (xs : List X) (x : X) (start before after : List ℕ) (place : ℕ)
     → before ≡ start ++ join_with_byte 44 (map f (take place xs)) → place < length xs → x ≡ get_or xs place x
     → after ≡ before ++ (comma_before place ++ f x) → after ≡ start ++ join_with_byte 44 (map f (take (place + 1) xs))
 piece_joined f xs x start before after place so_far within at is =
     piece_more f xs x start before (before ++ comma_before place) after place so_far within at refl (is ∙ sym (append_assoc before (comma_before place) (f x)))
 
--- the first so many are no longer than all
+-- the first `n` are no longer than all
 pub first_are_short : {X : Type 0} (f : X → List ℕ) (xs : List X) (n : ℕ) → n ≤ length xs
     → length (join_with_byte 44 (map f (take n xs))) ≤ length (join_with_byte 44 (map f xs))
 first_are_short f xs n within =

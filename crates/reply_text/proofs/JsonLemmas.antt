@@ -15,7 +15,7 @@ join_with_byte_more [] piece = refl
 join_with_byte_more (first ∷ []) piece = refl
 join_with_byte_more (first ∷ second ∷ pieces) piece = rw (join_with_byte_more (second ∷ pieces) piece, append_assoc, comma_after, comma_after) refl
 
--- one more item written behind its comma
+-- one more item written after its comma
 pub item_more : {X : Type 0} (f : X → List ℕ) (items : List X) (item : X) (start before between after : List ℕ) (place : ℕ) → before ≡ start ++ join_with_byte 44 (map f items) → place ≡ length items → between ≡ before ++ comma_before place → after ≡ between ++ f item → after ≡ start ++ join_with_byte 44 (map f (items ++ item ∷ []))
 item_more f items item start before between after place invariant at comma_is item_is =
     rw (map-append, join_with_byte_more, length-map) (rw (item_is, comma_is, at, invariant) (rw (append_assoc, append_assoc) refl))

@@ -41,7 +41,7 @@ length_zip [] (value ∷ values) e = absurd (omega arith)
 length_zip (name ∷ names) [] e = absurd (omega arith)
 length_zip (name ∷ names) (value ∷ values) e = ap suc (length_zip names values (omega arith))
 
--- one member more behind its comma
+-- one member more after its comma
 pub member_more : (names : List (List ℕ)) (values : List CellValue) (col : ℕ) (name : List ℕ) (value : CellValue) (start before between after : List ℕ)
     → col < length names → length values ≡ length names → name ≡ get_or names col name → get_or values col value ≡ value
     → before ≡ start ++ join_with_byte 44 (map json_member (take col (zip names values)))

@@ -28,7 +28,7 @@ digits_append (d ∷ front) back f b = (f.0, digits_append front back f.1 b)
 is_digit : (d : ℕ) → IsDigit d → is_ascii_digit d ≡ true
 is_digit d h = and_from _ _ (le-leb 48 d h.0) (le-leb d 57 h.1)
 
--- so many digits stand before what begins with none
+-- the digits come before what begins with none
 digits_before : (ds rest : List ℕ) → AreDigits ds → prefix_len is_ascii_digit rest ≡ 0 → prefix_len is_ascii_digit (ds ++ rest) ≡ length ds
 digits_before [] rest h none = none
 digits_before (d ∷ ds) rest h none =

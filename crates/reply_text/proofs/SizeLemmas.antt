@@ -1,4 +1,4 @@
--- Lengths as 64 bits tell them, and lengths of texts that are laid down piece by piece.
+-- Lengths as 64 bits have them, and lengths of texts that are written piece by piece.
 use Rattle.std.proofs.Common.{◌≡◌, ◌<◌, ◌≤◌, ◌==◌, ℕ, suc, ◌+◌, ◌-◌, Bool, true, false, cond, List, [], ◌∷◌, ◌++◌, length, map, take, get_or, codes, refl, ap, ◌∙◌, arith, length-append}
 use Rattle.std.specs.List.{concat, flat_map, join_with_byte, zip}
 use Rattle.std.proofs.lemmas.List.{take_more}
@@ -26,7 +26,7 @@ length-flat_push f (first ∷ xs) x =
     let behind = length-flat_push f xs x in
     omega (arith, length-append (f first) (flat_map f (xs ++ x ∷ [])), length-append (f first) (flat_map f xs), behind)
 
--- one item more, of so many bytes
+-- one item more, of `n` bytes
 one_longer : {X : Type 0} (f : X → List ℕ) (xs : List X) (d : X) (place n : ℕ) → place < length xs → length (f (get_or xs place d)) ≡ n
     → length (flat_map f (take (place + 1) xs)) ≡ length (flat_map f (take place xs)) + n
 one_longer f xs d place n within is =
@@ -36,7 +36,7 @@ pub item_told : {X : Type 0} (f : X → List ℕ) (xs : List X) (d : X) (place s
     → after ≡ told (size + n) → after ≡ told (length (flat_map f (take (place + 1) xs)))
 item_told f xs d place size after n within so_far is after_is = omega (arith, one_longer f xs d place n within is, so_far, after_is)
 
--- the same behind a start
+-- the same after a start
 pub item_after : {X : Type 0} (f : X → List ℕ) (xs : List X) (d : X) (start place size after n : ℕ) → place < length xs → size ≡ told (start + length (flat_map f (take place xs))) → length (f (get_or xs place d)) ≡ n
     → after ≡ told (size + n) → after ≡ told (start + length (flat_map f (take (place + 1) xs)))
 item_after f xs d start place size after n within so_far is after_is = omega (arith, one_longer f xs d place n within is, so_far, after_is)

@@ -63,7 +63,7 @@ value_is_tree (boolean false) fits = refl
 value_is_tree (date year month day) fits = ap (λ inside. 34 ∷ (inside ++ 34 ∷ [])) (sym (escape_low (day_text year month day) (day_low year month day fits.0 fits.1 fits.2)))
 value_is_tree (cell.decimal millionths) fits = refl
 
--- a name, a colon and a value, and what stands behind them
+-- a name, a colon and a value, and what stands after them
 named : (name value rest : List ℕ) → (json_text name ++ codes ":" ++ value) ++ rest ≡ quoted name ++ 58 ∷ (value ++ rest)
 named name value rest = append_assoc (json_text name ++ 58 ∷ []) value rest ∙ append_assoc (json_text name) (58 ∷ []) (value ++ rest) ∙ ap (λ n. n ++ 58 ∷ (value ++ rest)) (text_is_quoted name)
 

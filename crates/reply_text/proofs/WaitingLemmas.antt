@@ -5,7 +5,7 @@ use Rattle.std.proofs.lemmas.List.{drop-drop, drop-append-le, drop-take, drop_al
 use Rattle.std.proofs.lemmas.List.Folds.{concat-append}
 use borrow.Rule.Slice.PartMut.{mid_of, post_of, put_mid}
 
--- one more reply behind those that wait
+-- one more reply after those that wait
 pub give_one : (first reply now r : List ℕ) (others after : List (List ℕ)) → first ++ concat others ≡ now → after ≡ others ++ r ∷ [] → r ≡ reply
     → first ++ concat after ≡ now ++ reply
 give_one first reply now r others after v e q =
@@ -15,12 +15,12 @@ give_one first reply now r others after v e q =
     ∙ ap (λ (xs : List ℕ). xs ++ (r ++ [])) v
     ∙ ap (λ (xs : List ℕ). now ++ xs) (append-nil r ∙ q)
 
--- so many more bytes of the first reply are passed
+-- `more` further bytes of the first reply are passed
 pub pass_more : (first rest old : List ℕ) (passed more : ℕ) → more ≤ length first → first ++ rest ≡ drop passed old
     → drop more first ++ rest ≡ drop (passed + more) old
 pass_more first rest old passed more h e = sym (drop-append-le more first rest h) ∙ ap (λ (xs : List ℕ). drop more xs) e ∙ drop-drop more passed old
 
--- the next reply, of which so many bytes are passed, where none of the first was left
+-- the next reply, of which `more` bytes are passed, if none of the first was left
 pub pass_next : (first reply mine old : List ℕ) (others after : List (List ℕ)) (passed more : ℕ) → length first ≡ 0 → first ++ concat others ≡ drop passed old
     → others ≡ reply ∷ after → more ≤ length reply → mine ≡ drop more reply → mine ++ concat after ≡ drop (passed + more) old
 pass_next first reply mine old others after passed more z e o h m =
@@ -35,7 +35,7 @@ front_more S c m =
     ∙ ap (λ (xs : List ℕ). take c (take (c + m) S) ++ xs) (sym (drop-take c m S))
     ∙ take-append-drop c (take (c + m) S)
 
--- so many bytes more of what waits are in a buffer, whose rest stays
+-- `m` bytes more of what waits are in a buffer, whose rest stays
 pub taken_more : (S B w behind buf to : List ℕ) (c m : ℕ) → c ≤ length S → m ≤ length w → buf ≡ take c S ++ drop c B → w ++ behind ≡ drop c S
     → to ≡ take m w ++ drop m (mid_of c (length buf - c) buf) → put_mid c (length buf - c) buf to ≡ take (c + m) S ++ drop (c + m) B
 taken_more S B w behind buf to c m h few e whole t =

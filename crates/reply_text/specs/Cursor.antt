@@ -1,4 +1,4 @@
--- Bodies that are laid down piece by piece.
+-- Bodies that are written piece by piece.
 use Rattle.std.specs.Prelude.{ℕ, List}
 
 -- what is left of a body

@@ -1,4 +1,4 @@
--- What a body that is laid down piece by piece holds inside.
+-- What a body that is written piece by piece holds inside.
 use Rattle.std.specs.Prelude.{◌≡◌, ◌≤◌, ◌<◌, ◌^◌, ℕ, List, [], ◌∷◌, drop, length}
 use Rattle.std.specs.List.{AllByRecursion, concat}
 use Rattle.reply_text.specs.declared.cursor.BodyCursor.TheInside.{Inside}

@@ -51,7 +51,7 @@ pub record FitCsv (rows : RowsOf) : Type 0 where
   pub names : AllByRecursion IsPlainName rows.names
   pub values : AllByRecursion (λ row. 0 < length row) rows.rows
 
--- the records say what the rows do: the first has the names, those behind it the texts of the values, row by row; and the double
+-- the records say what the rows do: the first has the names, those after it the texts of the values, row by row; and the double
 -- quotes tell an empty text from null
 pub record SaysRows (rows : RowsOf) (records : List (List Field)) : Type 0 where
   pub contents : map (map content) records ≡ rows.names ∷ map (map value_text) rows.rows
@@ -74,7 +74,7 @@ pub record JsonReadsBack : Type 0 where
   pub rows : (names : List (List ℕ)) (values : List CellValue) → AllByRecursion FitsJson values → document (json_row names values) ≡ Some (object_of names values)
   pub bodies : (rows : RowsOf) → FitJson rows.rows → CountFits rows.count → document (rows_text rows) ≡ Some (body_of rows.names rows.rows rows.count)
 
--- A number of bytes that is counted is the number of bytes that are laid down, where it is less than the greatest that 64 bits tell; and each that 64 bits tell is
+-- A number of bytes that is counted is the number of bytes that are written, if it is less than the greatest of 64 bits; and each that 64 bits have is
 -- counted so.
 pub record CountsAreLengths : Type 0 where
   pub counted : (length : ℕ) → told length < 2 ^ 64 - 1 → told length ≡ length

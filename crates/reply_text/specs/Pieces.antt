@@ -1,4 +1,4 @@
--- The pieces that the bodies of rows are laid down in: what stands before the rows, each row, what stands after them.
+-- The pieces that the bodies of rows are written in: what comes before the rows, each row, what comes after them.
 use Rattle.std.specs.Prelude.{◌≡◌, ℕ, ◌+◌, List, [], ◌∷◌, ◌++◌, Option, codes, length, map, max}
 use Rattle.std.specs.List.{concat}
 use Rattle.cell_types.specs.Value.{CellValue}

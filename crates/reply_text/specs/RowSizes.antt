@@ -12,7 +12,7 @@ use Rattle.reply_text.specs.Size.{row_frame}
 use Rattle.reply_text.specs.Pieces.{json_items, AreSizesOf}
 use Rattle.reply_values.specs.Size.{told}
 
--- so many of these pieces were counted, from the first on
+-- the first `count` of these pieces were counted
 abbrev pub CountFirst : ℕ → List (List ℕ) → Sizes → Type 0
 CountFirst count pieces sizes = AreSizesOf (take count pieces) sizes.all sizes.longest
 
@@ -26,7 +26,7 @@ pub record IsObjectFrame (names : List (List ℕ)) (frame : Frame) : Type 0 wher
   pub first : frame.first ≡ told (length (row_frame names))
   pub more : frame.more ≡ 1
 
--- so many of these rows were counted, from the first on, and each is one of these pieces
+-- the first `count` of these rows were counted, and each is one of these pieces
 pub record AreFirstSizes (sizes : RowSizes) (count : ℕ) (rows : RowsOf) (pieces : List (List ℕ)) : Type 0 where
   pub len : sizes.len ≡ count
   pub within : count ≤ length rows.rows

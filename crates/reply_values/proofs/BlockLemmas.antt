@@ -17,7 +17,7 @@ first_of_front p (x ∷ xs) (suc n) = by (p x) (first_of_front p xs n)
     by true e = grind arith
     by false e = grind arith
 
--- the first of what is behind a front where none passes
+-- the first of what is after a front where none passes
 first_of_rest : (p : ℕ → Bool) (xs : List ℕ) (at : ℕ) → at ≤ position_or_len p xs → position_or_len p xs ≡ at + position_or_len p (drop at xs)
 first_of_rest p xs zero h = omega arith
 first_of_rest p [] (suc at) h = absurd (omega arith)
@@ -56,7 +56,7 @@ pub first_here : (p : ℕ → Bool) (xs : List ℕ) (n at r : ℕ) → at ≤ po
     → position_or_len p xs ≡ at + r
 first_here p xs n at r before is short = omega (arith, block_tells p xs n at r before is, short)
 
--- the first stands behind a block
+-- the first stands after a block
 pub first_later : (p : ℕ → Bool) (xs : List ℕ) (n at r : ℕ) → at ≤ position_or_len p xs → r ≡ position_or_len p (take n (drop at xs)) → n ≤ r
     → at + n ≤ position_or_len p xs
 first_later p xs n at r before is whole = omega (arith, block_tells p xs n at r before is, whole)

@@ -18,7 +18,7 @@ zero_left_out [] = refl
 zero_left_out (d ∷ ds) =
     ap₂ (λ b rest. cond (is_zero d && b) [] (d ∷ rest)) (all_zeros ds 48 true refl ∙ and-true (list_all is_zero ds)) (zero_left_out ds)
 
--- behind another digit none is left out
+-- after another digit none is left out
 last_kept : (ds : List ℕ) (d : ℕ) → is_zero d ≡ false → without_last_zeros (ds ++ d ∷ []) ≡ ds ++ d ∷ []
 last_kept [] d other = ap (λ b. cond (b && true) [] (d ∷ [])) other
 last_kept (x ∷ ds) d other =

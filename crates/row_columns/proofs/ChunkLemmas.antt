@@ -67,7 +67,7 @@ in_first : (n : ℕ) (c : Chunk) (chunks : List Chunk) (place : ℕ) → AreCoun
 in_first n c [] place counted from next less = omega (arith, from, less, size c, length-append (chunk_numbers c) [])
 in_first n c (d ∷ chunks) place counted from next less = omega (arith, from, counted.0, next (omega arith))
 
--- it is in the last chunk that has at most so many before it
+-- it is in the last chunk that has at most `place` numbers before it
 pub chunk_found : (n : ℕ) (chunks : List Chunk) (i place : ℕ) → AreCounted n chunks → i < length chunks → (get_or chunks i no_chunk).before ≤ place
     → (suc i < length chunks → place < (get_or chunks (suc i) no_chunk).before) → place < n + length (chunked_numbers chunks)
     → (place - (get_or chunks i no_chunk).before < length (get_or chunks i no_chunk).rows)

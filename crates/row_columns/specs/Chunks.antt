@@ -18,7 +18,7 @@ chunked_numbers (chunk ∷ chunks) = chunk_numbers chunk ++ chunked_numbers chun
 abbrev pub numbers_view : Inside → List ℕ
 numbers_view numbers = chunked_numbers numbers.chunks.items ++ numbers.listed.items
 
--- each chunk knows how many numbers come before its own, where so many come before the first
+-- each chunk knows how many numbers come before its own, if `before` come before the first
 abbrev pub AreCounted : ℕ → List Chunk → Type 0
 AreCounted before [] = Unit {0}
 AreCounted before (chunk ∷ chunks) = (chunk.before ≡ before) × AreCounted (before + length chunk.rows) chunks

@@ -10,7 +10,7 @@ use Rattle.memchr.proofs.lemmas.MatchLemmas.{OccursAt-split, OccursAt-from_part}
 use Rattle.cell_types.proofs.ListLaws.{starts_with-append}
 use Rattle.row_eval.specs.Text.{place_of_part}
 
--- a part occurs behind a front
+-- a part occurs after a front
 occurs_in : (needle a b : List ℕ) → OccursAt (a ++ (needle ++ b)) needle (length a)
 occurs_in needle a b =
     let fits : length a + length needle ≤ length (a ++ (needle ++ b)) = simp length-append (omega arith) in

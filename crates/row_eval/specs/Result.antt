@@ -8,7 +8,7 @@ use Rattle.row_eval.specs.declared.truth.Truth.{Truth}
 use Rattle.row_eval.specs.Memory.{truth_concatenates}
 use Rattle.row_eval.specs.Outcome.{truth_outcome}
 
--- the outcome, seen by a view; a division by zero just where it is one; want of memory only where texts are joined
+-- the outcome, seen by a view; a division by zero just where it is one; out of memory only if texts are joined
 abbrev pub Evaluates : {T X : Type 0} → (T → X) → Option X → Bool → Result T EvalFault → Type 0
 Evaluates view outcome concatenates (Ok x) = outcome ≡ Some (view x)
 Evaluates view outcome concatenates (Err DivisionByZero) = outcome ≡ None

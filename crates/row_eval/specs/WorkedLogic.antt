@@ -55,7 +55,7 @@ pub record WorkedLogic : Type 0 where
   -- a comparison is never null: `not (Id eq null)`, `not (Id ne null)`
   pub not_equal_null : Is (negation (compare_numbers Equal id_number null_number)) blank False
   pub not_unequal_null : Is (negation (compare_numbers NotEqual id_number null_number)) blank True
-  -- the right side is passed over behind `false and` and `true or`; every other operand is evaluated
+  -- the right side is passed over after `false and` and `true or`; every other operand is evaluated
   pub false_and_faulty : Is (conjunction no faulty) full False
   pub true_or_faulty : Is (disjunction yes faulty) full True
   pub true_and_faulty : Faults (conjunction yes faulty)

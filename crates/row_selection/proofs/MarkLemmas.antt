@@ -60,7 +60,7 @@ marked_at start (false ∷ marks) k d less = let low = marked_at (suc start) mar
 pub marked_within : (marks : List Bool) → All (λ n. n < length marks) (marked_numbers 0 marks)
 marked_within marks = λ k d less. (let low = marked_at 0 marks k d less in omega (arith, low))
 
--- ---- so many of them
+-- ---- how many there are
 
 -- no more than there are
 pub take_least : {X : Type 0} (xs : List X) (count most len : ℕ) → count ≡ length xs → len ≡ min count most → take len xs ≡ take most xs

@@ -8,7 +8,7 @@ marked_numbers start [] = []
 marked_numbers start (true ∷ marks) = start ∷ marked_numbers (suc start) marks
 marked_numbers start (false ∷ marks) = marked_numbers (suc start) marks
 
--- those of the first so many bits of a word that are set, each as its place after a number
+-- those of the first bits of a word, of the given count, that are set, each as its place after `start`
 unfoldable pub bit_numbers : ℕ → ℕ → ℕ → List ℕ
 bit_numbers start word zero = []
 bit_numbers start word (suc count) = bit_numbers start word count ++ (if bit_at word count == 1 then (start + count) ∷ [] else [])

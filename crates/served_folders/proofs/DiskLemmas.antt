@@ -10,7 +10,7 @@ use Rattle.csvw_meta.specs.Schema.{SchemaOf, schema_view}
 use Rattle.table_store.specs.File.{FileOf}
 use Rattle.served_folders.specs.Disk.{IsFileOf, AreFilesOf}
 
--- bytes that are read behind others are written over the room there
+-- bytes that are read after others are written over the room there
 pub read_over : (old now room post rest new : List ℕ) (start count long : ℕ) → start ≡ length old → take start now ≡ old → count ≤ length room
     → start + count ≤ long → new ≡ take (start + count) (take long (take start now ++ (room ++ post) ++ rest)) → new ≡ old ++ take count room
 read_over old now room post rest new start count long e front fits within is =
@@ -35,7 +35,7 @@ over_by room most long f g =
       | inr some ↦ inl (f some)
     ]
 
--- a file is read on in behind what was read
+-- a file is read on in after what was read
 pub consumed_more : (told left more : Option (List ℕ)) (read piece : List ℕ) → Consumes told left read → Consumes left more piece
     → Consumes told more (read ++ piece)
 consumed_more None left more read piece h k = tt

@@ -13,7 +13,7 @@ use Rattle.served_folders.specs.declared.folders.FolderFault.TheVariants.{NoMeta
 abbrev pub CountsUp : ℕ → ℕ → Type 0
 CountsUp old new = old < 2 ^ 64 - 1 → new ≡ old + 1
 
--- what the last load under a name took, where that is told; how many loads there were, how many of them answered `NoMetadata`, and how many
+-- what the last load under a name took, if that is reported; how many loads there were, how many of them answered `NoMetadata`, and how many
 -- `Device`
 pub record FoldersOf : Type 0 where
   pub took : List ℕ → Option FolderOf
@@ -29,14 +29,14 @@ unasked took = record { took = took; loads = 0; no_metadata = 0; device = 0 }
 abbrev pub greatest_limits : LimitsOf
 greatest_limits = record { file = MOST_FILE_BYTES; tables = MOST_TABLES; columns = MOST_COLUMNS; transformations = MOST_TRANSFORMATIONS }
 
--- a folder under the greatest limits means this catalog: the folder that was taken, where it is told
+-- a folder under the greatest limits means this catalog: the folder that was taken, if it is reported
 pub record MeansTaken (taken : Option FolderOf) (catalog : CatalogOf) : Type 0 where
   pub folder : FolderOf
   pub limits : folder.limits ≡ greatest_limits
   pub same : IfSome taken (λ other. other ≡ folder)
   pub means : Means folder catalog
 
--- a folder under the greatest limits is refused under this cause: the folder that was taken, where it is told
+-- a folder under the greatest limits is refused under this cause: the folder that was taken, if it is reported
 pub record RefusesTaken (taken : Option FolderOf) (cause : LoadCause) : Type 0 where
   pub folder : FolderOf
   pub limits : folder.limits ≡ greatest_limits

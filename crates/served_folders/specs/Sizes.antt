@@ -4,7 +4,7 @@ use Rattle.std.specs.Str.{bytes_eq}
 use Rattle.csvw_meta.specs.declared.limits.TheConstants.{MOST_FILE_BYTES}
 use Rattle.table_store.specs.Fault.{LoadCause, bad_table, file_missing, file_too_large}
 
--- a file of so many bytes is over the limit
+-- a file of `length` bytes is over the limit
 abbrev pub is_too_large : ℕ → Bool
 is_too_large length = nat_lt MOST_FILE_BYTES length
 

@@ -55,12 +55,12 @@ age_text tally = codes ", " ++ decimal tally.reloads ++ codes " reloads, " ++ de
 abbrev pub minute_text : Tally → List ℕ
 minute_text tally = ((counts_text tally ++ sent_text tally.work) ++ longest_text tally.work) ++ age_text tally
 
--- a text, or where that is empty the one for a device and for want of memory
+-- a text, or if that is empty the one for a device and for memory that ran out
 abbrev pub or_unknown : List ℕ → List ℕ
 or_unknown [] = codes "not reloaded: a device failed or memory ran out"
 or_unknown (b ∷ text) = b ∷ text
 
--- a changed folder that was not taken up: the text of its fault
+-- a changed folder that was not loaded: the text of its fault
 abbrev pub refused_text : ProgramFault → List ℕ
 refused_text fault = or_unknown (fault_text fault)
 
@@ -88,7 +88,7 @@ tally_after_end tally = record tally { places = tally.places - 1 }
 abbrev pub tally_after_reload : Tally → Tally
 tally_after_reload tally = record tally { reloads = min (tally.reloads + 1) most_counted; age = 0 }
 
--- the tables are so many seconds old
+-- the tables are `age` seconds old
 abbrev pub aged : ℕ → Tally → Tally
 aged age tally = record tally { age = age }
 

@@ -9,7 +9,7 @@ most_counted = 2 ^ 64 - 1
 abbrev pub no_work : Work
 no_work = record { requests = 0; bytes = 0; turn = 0; longest = 0 }
 
--- so many microseconds more were worked in the turn that goes on
+-- `micros` microseconds more were worked in the turn that goes on
 abbrev pub work_after_charge : ℕ → Work → Work
 work_after_charge micros work = record work { turn = min (work.turn + micros) most_counted }
 

@@ -21,7 +21,7 @@ use Rattle.sort_rows.proofs.StableLemmas.{Rises}
 
 -- ---- orders
 
--- what is not behind a bound is before what is
+-- what is not after a bound is before what is
 before_through : {X : Type 0} (lt : X → X → Bool) → IsStrictWeakOrder lt → (bound a b : X) → lt bound a ≡ false → lt bound b ≡ true → lt a b ≡ true
 before_through lt order bound a b e f = elim (cases_Bool (lt a b)) [
   | inl g ↦ g

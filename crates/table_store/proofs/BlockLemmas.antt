@@ -33,7 +33,7 @@ length-part table first rows within = omega (arith, length-take rows (drop first
 pub part-row : (table : TableOf) (first rows row : ℕ) → row < rows → slice_get (part table first rows).rows row ≡ slice_get table.rows (first + row)
 part-row table first rows row h = slice_get-take rows (drop first table.rows) row h ∙ slice_get-drop first table.rows row
 
--- a block has as many rows as are left, at most so many
+-- a block has as many rows as are left, at most `most`
 pub part-fewer : (table : TableOf) (first rows most : ℕ) → rows ≡ min (length table.rows - first) most → part table first rows ≡ part table first most
 part-fewer table first rows most e =
     let left = length-drop first table.rows in

@@ -43,7 +43,7 @@ HaveTables-more limit files [] (t ∷ tables) schema table have has = absurd hav
 HaveTables-more limit files (s ∷ schemas) [] schema table have has = absurd have
 HaveTables-more limit files (s ∷ schemas) (t ∷ tables) schema table have has = (have.0, HaveTables-more limit files schemas tables schema table have.1 has)
 
--- behind whole tables, the first that is refused
+-- after whole tables, the first that is refused
 pub first_bad-behind : (limit : ℕ) (files : List FileOf) (before : List SchemaOf) (tables : List TableOf) (schema : SchemaOf) (behind : List SchemaOf) (url : List ℕ) (cause : TableCause)
     → HaveTables limit files before tables → schema.url ≡ url → HasTableCause limit (file_named schema.url files) schema cause
     → IsFirstBadTable limit files (before ++ schema ∷ behind) url cause

@@ -18,7 +18,7 @@ use Rattle.table_store.specs.Table.{TableOf}
 use Rattle.column_blocks.specs.TypedColumn.{typed_cells, AreTyped, ColumnCells}
 use Rattle.table_store.proofs.PlaceLemmas.{slice_get-from_read}
 
--- ---- rows of columns: there are so many
+-- ---- rows of columns: there are `n`
 pub length-rows_of_columns : (n : ℕ) (columns : List (List CellValue)) → length (rows_of_columns n columns) ≡ n
 length-rows_of_columns zero columns = refl
 length-rows_of_columns (suc n) columns = omega (arith, length-rows_of_columns n (map (drop 1) columns))

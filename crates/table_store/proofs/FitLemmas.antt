@@ -25,7 +25,7 @@ use Rattle.csv_fields.specs.Values.{AllHaveValues, HaveValues, rows_in, value_or
 
 -- ---- no field says more than its file has
 
--- each field of a record says at most so many bytes
+-- each field of a record has at most `n` bytes
 abbrev AreWithin : ℕ → List Field → Type 0
 AreWithin n fields = AllByRecursion (λ f. length (content f) ≤ n) fields
 

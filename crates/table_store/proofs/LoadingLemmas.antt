@@ -65,7 +65,7 @@ is_table_at columns bytes file is e f =
     let both = rows_from-none 0 columns file.rows f in
     record { is = is; header_matches = e; rows = both.1; fits = header_fits columns bytes file is e; values = both.0 }
 
--- the fault of a cell is a cause where it is not want of memory
+-- the fault of a cell is a cause unless memory ran out
 pub cell_cause-holds : (fault : CellFault) (P : CellFault → Type 0) → (fault ≡ NoMemory) ⊎ P fault → IfSome (cell_cause fault) P
 cell_cause-holds NoMemory P h = tt
 cell_cause-holds fault P (inl memory) = cc

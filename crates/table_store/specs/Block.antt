@@ -1,4 +1,4 @@
--- Blocks of rows: the rows of a table in their order, so many at a time.
+-- Blocks of rows: the rows of a table in their order, up to a number of rows each.
 pub use Rattle.block_summary.specs.Blocks.{block_count}
 use Rattle.std.specs.Prelude.{◌≡◌, ◌+◌, ◌*◌, ◌-◌, ◌/◌, ◌≤◌, ◌^◌, ◌<◌, ℕ, min, if◌then◌else◌, List, length, take, drop, Option, Some, None, option_and_then, option_map, slice_get}
 use Rattle.block_summary.specs.Ranges.{column_of}

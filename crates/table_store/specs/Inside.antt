@@ -1,4 +1,4 @@
--- What a table holds: a schema, so many rows, the cells of each column, and keys.
+-- What a table holds: a schema, the number of its rows, the cells of each column, and keys.
 use Rattle.std.specs.Prelude.{ℕ, zero, suc, List, [], ◌∷◌, map, drop, slice_index_or}
 use Rattle.cell_types.specs.Value.{CellValue, null}
 use Rattle.csvw_meta.specs.Schema.{SchemaOf, schema_view}
@@ -9,12 +9,12 @@ use Rattle.key_index.specs.Keys.{AreColumns, AreKeysOf}
 use Rattle.table_store.specs.Fits.{HasTableRows}
 use Rattle.table_store.specs.Summaries.{cells_by_column, AreSummariesOf}
 
--- so many rows of columns: the first cell of each column, and then the rows of the cells after it
+-- the rows of columns, of the given count: the first cell of each column, and then the rows of the cells after it
 abbrev pub rows_of_columns : ℕ → List (List CellValue) → List (List CellValue)
 rows_of_columns zero columns = []
 rows_of_columns (suc rows) columns = map (λ cells. slice_index_or cells 0 null) columns ∷ rows_of_columns rows (map (drop 1) columns)
 
--- the table of a schema and of so many rows of columns
+-- the table of a schema and of `rows` rows of columns
 abbrev pub table_of : SchemaOf → ℕ → List ColumnCells → TableOf
 table_of schema rows columns = record { schema = schema; rows = rows_of_columns rows (cells_by_column columns) }
 

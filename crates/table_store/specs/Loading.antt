@@ -66,7 +66,7 @@ table_cause NoMemory = None
 abbrev pub keys_at : SchemaOf → List (List RawField) → List (List CellValue)
 keys_at schema rows = key_index schema.key (rows_in schema.columns rows)
 
--- so many rows of fields were read, with these columns and keys
+-- these rows of fields were read, with these columns and keys
 pub record ArePartsOf (schema : SchemaOf) (rows : List (List RawField)) (parts : KeyedRows) : Type 0 where
   pub count : parts.rows ≡ length rows
   pub columns : AreTyped schema.columns (rows_in schema.columns rows) parts.columns.items

@@ -16,7 +16,7 @@ use Rattle.table_store.specs.Table.{rows_from, values_from}
 abbrev pub AllColumnsHaveValues : List ColumnOf → List (List RawField) → Type 0
 AllColumnsHaveValues columns rows = (col : ℕ) (column : ColumnOf) → slice_get columns col ≡ Some column → PartHasValues column col rows
 
--- a reader of the column with room for so many cells
+-- a reader of the column with room for `rows` cells
 pub record HasPartReader (column : ColumnOf) (reader : ReaderOf) (rows : ℕ) : Type 0 where
   pub type : packed_type_of column.datatype ≡ reader.packed_type
   pub room : length reader.cells + rows ≤ reader.rows

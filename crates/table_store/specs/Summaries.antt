@@ -27,7 +27,7 @@ pub record AreRangesAt (number : ℕ) (columns : List ColumnCells) (ranges : Lis
   pub each : (col : ℕ) → col < length columns
       → IsRangeOf (slice_index_or ranges col no_range) (take BLOCK_ROWS (drop (number * BLOCK_ROWS) (slice_index_or (cells_by_column columns) col [])))
 
--- so they are of each block of columns of so many rows, in order
+-- so they are of each block of columns of `rows` rows, in order
 pub record AreRangesByBlock (rows : ℕ) (columns : List ColumnCells) (summaries : List (List RangeOf)) : Type 0 where
   pub count : length summaries ≡ block_count rows
   pub each : (number : ℕ) → number < length summaries → AreRangesAt number columns (slice_index_or summaries number [])

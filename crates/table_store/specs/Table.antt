@@ -28,7 +28,7 @@ mismatch_from place (column ∷ columns) [] = Some place
 mismatch_from place (column ∷ columns) (field ∷ fields) =
     if is_called column (content field) then mismatch_from (place + 1) columns fields else Some place
 
--- a value and those behind it, or the first that is missing, by its place, and why
+-- a value and those after it, or the first that is missing, by its place, and why
 abbrev pub value_then : ℕ → Result CellValue CellFault → Result (List CellValue) (ℕ × CellFault) → Result (List CellValue) (ℕ × CellFault)
 value_then place (Ok value) (Ok values) = Ok (value ∷ values)
 value_then place (Ok value) (Err later) = Err later
@@ -41,7 +41,7 @@ values_from place (column ∷ columns) [] = Ok []
 values_from place (column ∷ columns) (field ∷ fields) =
     value_then place (value_of column (content field)) (values_from (place + 1) columns fields)
 
--- a row and those behind it, or the first cell that has no value
+-- a row and those after it, or the first cell that has no value
 abbrev pub row_then : ℕ → Result (List CellValue) (ℕ × CellFault) → Result (List (List CellValue)) (ℕ × ℕ × CellFault) → Result (List (List CellValue)) (ℕ × ℕ × CellFault)
 row_then row (Ok values) (Ok rows) = Ok (values ∷ rows)
 row_then row (Ok values) (Err later) = Err later

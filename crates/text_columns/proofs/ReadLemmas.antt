@@ -10,7 +10,7 @@ use Rattle.text_columns.specs.Texts.{text_unless_null, texts_unless_null, start_
 use Rattle.text_columns.proofs.ListLemmas.{take-front-le}
 use Rattle.text_columns.proofs.TextLemmas.{cells-more, cells-same, length-text_cells, length-texts, texts-more, texts-same}
 
--- a text is written behind the front
+-- a text is written after the front
 pub record IsWritten (at to : ℕ) (old new t : List ℕ) : Type 0 where
   pub order : at ≤ to
   pub within : at ≤ length old

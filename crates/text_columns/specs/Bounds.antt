@@ -17,6 +17,6 @@ range_at cells bounds = record {
   null_count = bounds.null_count;
 }
 
--- the cells of these rows are the least and the greatest of the cells, of which so many are null
+-- the cells of these rows are the least and the greatest of the cells, and this is how many are null
 abbrev pub AreTextBounds : List CellValue → TextBounds → Type 0
 AreTextBounds cells bounds = IsRangeOf (range_at cells bounds) cells

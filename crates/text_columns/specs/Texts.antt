@@ -28,7 +28,7 @@ abbrev pub start_from : ℕ → List ℕ → ℕ → ℕ
 start_from start ends zero = start
 start_from start ends (suc row) = slice_index_or ends row 0
 
--- no text ends before it begins, and none past the end of so many bytes
+-- no text ends before it begins, and none past the end of `size` bytes
 abbrev pub EndsRise : List ℕ → ℕ → Type 0
 EndsRise ends size = (row : ℕ) → row < length ends → (start_from 0 ends row ≤ slice_index_or ends row 0) × (slice_index_or ends row 0 ≤ size)
 
@@ -36,7 +36,7 @@ EndsRise ends size = (row : ℕ) → row < length ends → (start_from 0 ends ro
 abbrev pub AreBoundaries : List ℕ → List ℕ → Type 0
 AreBoundaries ends bytes = (row : ℕ) → row < length ends → IsCharBoundary bytes (slice_index_or ends row 0)
 
--- marks of nulls of so many rows: none, where no row is null
+-- marks of nulls of `rows` rows: none, if no row is null
 abbrev pub HaveMarks : List Bool → ℕ → Type 0
 HaveMarks nulls rows = (nulls ≡ []) ⊎ (length nulls ≡ rows)
 

@@ -86,7 +86,7 @@ digit_same c d h k e = sym (digit_value-digit_char c (omega arith)) ∙ ap digit
 control_same : (c d : ℕ) → c < 160 → d < 160 → c / 16 % 16 ≡ d / 16 % 16 → c % 16 ≡ d % 16 → c ≡ d
 control_same c d h k high low = omega arith
 
--- the texts that are written for two characters which are no backslash, with others behind them
+-- the texts that are written for two characters which are no backslash, with others after them
 pub both_same : (c d : ℕ) (b e : Bool) (xs ys : List ℕ) → is_control c ≡ b → is_control d ≡ e → (c == backslash) ≡ false → (d == backslash) ≡ false
     → (if b then backslash ∷ 117 ∷ four_hex_digits c else c ∷ []) ++ xs ≡ (if e then backslash ∷ 117 ∷ four_hex_digits d else d ∷ []) ++ ys → (c ≡ d) × (xs ≡ ys)
 both_same c d true true xs ys h k lacks none same =

@@ -42,7 +42,7 @@ pub record WorkedTexts : Type 0 where
   pub same : escaped (codes "x" ++ backslash ∷ codes "u000aopened 7") ≡ codes "x" ++ backslash ∷ codes "u000aopened 7"
   -- the sequence that makes the text of a terminal red
   pub red : escaped (0x1B ∷ codes "[31m") ≡ backslash ∷ codes "u001b[31m"
-  -- U+001F and the space behind it, U+007E and U+007F, U+009F and U+00A0
+  -- U+001F and the space after it, U+007E and U+007F, U+009F and U+00A0
   pub space : escaped (0x1F ∷ 0x20 ∷ []) ≡ backslash ∷ codes "u001f "
   pub delete : escaped (0x7E ∷ 0x7F ∷ []) ≡ 0x7E ∷ backslash ∷ codes "u007f"
   pub last : escaped (0xC2 ∷ 0x9F ∷ 0xC2 ∷ 0xA0 ∷ []) ≡ backslash ∷ codes "u009f" ++ 0xC2 ∷ 0xA0 ∷ []

@@ -15,7 +15,7 @@ abbrev pub is_nonzero : NumberExprOf → Bool
 is_nonzero (number_literal n) = not (int_eq n (pos 0))
 is_nonzero _ = false
 
--- the same, perhaps behind one `-`
+-- the same, perhaps after one `-`
 abbrev pub is_safe_divisor : NumberExprOf → Bool
 is_safe_divisor (negated e) = is_nonzero e
 is_safe_divisor e = is_nonzero e

@@ -1,4 +1,4 @@
--- The machine stands behind a text as the text's carry says, and goes on at a byte exactly where the byte may follow.
+-- The machine stands after a text as the text's carry says, and goes on at a byte exactly where the byte may follow.
 use Rattle.std.proofs.Common.{refl}
 use Rattle.csv_grammar.proofs.Machine.{initial}
 use Rattle.csv_grammar.proofs.Viable.{viable-from_run, viable_front}

@@ -1,4 +1,4 @@
--- No definition answers want of memory.
+-- No definition answers that memory ran out.
 use Rattle.std.proofs.Common.{ap, sym, ◌∙◌}
 use Rattle.cell_types.specs.Cell.{reading_view}
 use Rattle.cell_types.specs.Column.{column_view}

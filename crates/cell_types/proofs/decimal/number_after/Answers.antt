@@ -1,4 +1,4 @@
--- Behind each digit the number only grows.
+-- After each digit the number only grows.
 use Rattle.std.proofs.Common.{◌≡◌, arith, drop, []}
 use Rattle.std.proofs.lemmas.List.{drop_all}
 use Rattle.cell_types.proofs.DecimalLemmas.{no_room}

@@ -1,4 +1,4 @@
--- The parts one behind the other.
+-- The parts one after the other.
 use Rattle.std.proofs.Common.{ℕ, ◌-◌, ◌<◌, ◌^◌, take, length, rules, ap, subst, ◌∙◌}
 use Rattle.std.specs.Prelude.{codes}
 use Rattle.std.specs.Option.{SomeIff}

@@ -1,4 +1,4 @@
--- Behind the first point.
+-- After the first point.
 use Rattle.std.proofs.Common.{◌+◌, ◌-◌, ◌≤◌, length, drop, arith, ap, ◌∙◌, drop-drop, take_all, length-drop}
 use Rattle.cell_types.proofs.decimal.parts.Goals as goal
 

@@ -1,4 +1,4 @@
--- The white space at the front, and the first word behind it.
+-- The white space at the front, and the first word after it.
 use Rattle.std.proofs.Common.{◌≡◌, ◌<◌, ◌∷◌, length, drop, arith, ap, sym, ◌∙◌}
 use Rattle.std.proofs.lemmas.Bool.{eqb-true, eqb-false}
 use Rattle.std.specs.List.{prefix_len, position_or_len}

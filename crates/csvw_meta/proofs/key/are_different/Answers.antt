@@ -1,4 +1,4 @@
--- One text further: it stands again behind, or those left decide.
+-- One text further: it stands again after, or those left decide.
 use Rattle.std.proofs.Common.{◌≡◌, ◌+◌, ◌-◌, length, take, drop, refl, sym}
 use Rattle.std.specs.List.{list_any}
 use Rattle.std.specs.Str.{bytes_eq}

@@ -1,4 +1,4 @@
--- The text behind the mark is the text without one, and both are short enough.
+-- The text after the mark is the text without one, and both are short enough.
 use Rattle.std.proofs.Common.{ap}
 use Rattle.csvw_meta.specs.Document.{schemas_of_value}
 use Rattle.csvw_meta.proofs.DocumentLemmas.{document-mark}

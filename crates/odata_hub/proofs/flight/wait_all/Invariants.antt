@@ -4,7 +4,7 @@ use Rattle.odata_http.specs.Answer.{AreSmall}
 use Rattle.odata_hub.specs.Streams.{asked}
 use Rattle.odata_hub.proofs.flight.wait_all.Given as goal
 
--- the heads before this one wait, and those behind are small
+-- the heads before this one wait, and those after are small
 abbrev pub invariant-loop-head : goal.invariant-loop-head
 invariant-loop-head l = (into_iter_len l.head-iterator ≡ length (into_iter_items l.head-iterator))
     × AreSmall (into_iter_items l.head-iterator)

@@ -1,4 +1,4 @@
--- The transformations left are behind those so far.
+-- The transformations left are after those so far.
 use Rattle.std.proofs.Common.{◌≡◌, ◌++◌, map, drop}
 use Rattle.std.specs.Prelude.{Ok}
 use Rattle.odata_parse.specs.Tree as tree

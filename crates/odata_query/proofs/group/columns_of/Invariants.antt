@@ -1,4 +1,4 @@
--- The columns left are behind those so far.
+-- The columns left are after those so far.
 use Rattle.std.proofs.Common.{◌≡◌, ◌++◌, drop}
 use Rattle.odata_types.specs.Columns.{inputs_view}
 use Rattle.odata_query.specs.Apply.{columns_at}

@@ -1,4 +1,4 @@
--- The numbers left are behind those so far.
+-- The numbers left are after those so far.
 use Rattle.std.proofs.Common.{◌≡◌, ◌++◌, map, drop}
 use Rattle.std.specs.Prelude.{Ok, string_bytes}
 use Rattle.odata_types.specs.Columns.{inputs_view}

@@ -1,4 +1,4 @@
--- The items left are behind those so far.
+-- The items left are after those so far.
 use Rattle.std.proofs.Common.{◌≡◌, ◌++◌, [], map, drop}
 use Rattle.std.specs.Prelude.{Ok}
 use Rattle.odata_parse.specs.Tree.{aggregate_item_view}

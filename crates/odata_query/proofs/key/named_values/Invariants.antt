@@ -1,4 +1,4 @@
--- The values left are behind those so far.
+-- The values left are after those so far.
 use Rattle.std.proofs.Common.{◌≡◌, ◌++◌, map, drop}
 use Rattle.std.specs.Prelude.{Ok}
 use Rattle.cell_types.specs.Value.{value_view}

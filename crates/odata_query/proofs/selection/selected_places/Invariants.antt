@@ -1,4 +1,4 @@
--- The places left are behind those so far.
+-- The places left are after those so far.
 use Rattle.std.proofs.Common.{◌≡◌, ◌++◌, map, drop}
 use Rattle.odata_parse.specs.Tree.{select_item_view}
 use Rattle.odata_types.specs.Columns.{inputs_view}

@@ -1,4 +1,4 @@
--- The fields behind the next one are left.
+-- The fields after the next one are left.
 use Rattle.std.proofs.Common.{subst}
 use Rattle.csv_index.specs.Fields.{AreLeft}
 use Rattle.csv_index.proofs.Boundaries.{left_behind}

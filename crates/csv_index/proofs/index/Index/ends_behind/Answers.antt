@@ -1,4 +1,4 @@
--- What follows is what the masks have behind the place.
+-- What follows is what the masks have after the place.
 use Rattle.std.proofs.Common.{◌≡◌, ◌+◌, ◌*◌, ◌-◌, ◌%◌, ◌^◌, bit_and, w64, ◌<◌, ◌≤◌, length, length-drop, take, drop, arith, refl, sym, ap, ◌∙◌}
 use Rattle.std.proofs.lemmas.List.{take_all}
 use Rattle.std.proofs.lemmas.Option.{get_or_from_slice_get}

@@ -1,4 +1,4 @@
--- The fields behind the last of the row above.
+-- The fields after the last of the row above.
 use Rattle.std.proofs.Common.{◌≡◌, ℕ, ◌+◌, ◌-◌, ◌*◌, ◌≤◌, ◌<◌, length, drop, add-one, subst, arith, sym, ap, ◌∙◌}
 use Rattle.csv_index.specs.Index.{Places}
 use Rattle.csv_index.proofs.Boundaries.{boundary_next}

@@ -1,4 +1,4 @@
--- The field begins behind the place of the one before it.
+-- The field begins after the place of the one before it.
 use Rattle.std.proofs.Common.{◌≡◌, ◌-◌, ◌^◌, Some, arith, sym}
 use Rattle.std.specs.List.{slice_get}
 use Rattle.csv_index.specs.Structure.{ends_of}

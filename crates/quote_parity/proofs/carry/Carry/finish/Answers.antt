@@ -1,4 +1,4 @@
--- A text may not end inside double quotes or behind a CR, and may anywhere else.
+-- A text may not end inside double quotes or after a CR, and may anywhere else.
 use Rattle.std.proofs.Common.{◌≡◌, ℕ, false, not, ◌||◌, ◌==◌, refl, sym, ap, ap₂, ◌∙◌, ne_eqb, inl, inr, ◌⊎◌}
 use Rattle.csv_grammar.specs.Following.{TextCarry, may_end}
 use Rattle.quote_parity.specs.Kinds.{last_kind}
