@@ -8,9 +8,10 @@ use Rattle.std.proofs.lemmas.List.{get_or-map, get_or-replicate, length-map, len
 use Rattle.std.proofs.lemmas.Nat.{div-mul-add, mod-mul-add}
 use Rattle.block_summary.specs.Cells.{AreBounds}
 use Rattle.block_summary.specs.Ranges.{column_of}
-use Rattle.block_summary.specs.Types.{cell_of, cells_of_type, numbers_of}
+use Rattle.cell_types.specs.Kind.{cell_of}
+use Rattle.block_summary.specs.Types.{cells_of_kind, numbers_of}
 use Rattle.block_summary.specs.declared.bounds.Bounds.{Bounds}
-use Rattle.block_summary.specs.declared.number.PackedType.{PackedType}
+use Rattle.cell_types.specs.declared.kind.NumberKind.{NumberKind}
 use Rattle.cell_types.specs.Rows.{value_at, values_at}
 use Rattle.cell_types.specs.Value.{CellValue, null}
 use Rattle.row_columns.specs.Codes.{HaveCodes}
@@ -30,13 +31,13 @@ codes_of_rows numbers rows made are = subst (λ n. AreFewCodes n made) (sym (len
 
 -- ---- a column of numbers
 
-cell-at : (type : PackedType) (cells : List (Option ℤ)) (row : ℕ) → get_or (cells_of_type type cells) row null ≡ cell_of type (get_or cells row None)
+cell-at : (type : NumberKind) (cells : List (Option ℤ)) (row : ℕ) → get_or (cells_of_kind type cells) row null ≡ cell_of type (get_or cells row None)
 cell-at type [] row = refl
 cell-at type (n ∷ ns) zero = refl
 cell-at type (n ∷ ns) (suc row) = cell-at type ns row
 
-pub number-codes : (place : ℕ) (numbers : List ℕ) (rows : List (List CellValue)) (cells : List CellValue) (type : PackedType) (made : Codes) → All (λ n. n < length rows) numbers
-    → cells ≡ column_of rows place → cells_of_type type (numbers_of cells) ≡ cells → HaveNumberCodes (numbers_of cells) numbers made → HaveCodesOf (value_alone place) (numbered numbers rows) made
+pub number-codes : (place : ℕ) (numbers : List ℕ) (rows : List (List CellValue)) (cells : List CellValue) (type : NumberKind) (made : Codes) → All (λ n. n < length rows) numbers
+    → cells ≡ column_of rows place → cells_of_kind type (numbers_of cells) ≡ cells → HaveNumberCodes (numbers_of cells) numbers made → HaveCodesOf (value_alone place) (numbered numbers rows) made
 number-codes place numbers rows cells type made within column typed have = record {
   are = codes_of_rows numbers rows made have.are;
   values_of = λ code. cell_of type (have.number_of code) ∷ [];
@@ -132,8 +133,8 @@ zero-codes numbers rows made one zeros = record {
 
 -- ---- the codes of a column, where it has such
 
-pub number-codes-made : (place : ℕ) (numbers : List ℕ) (rows : List (List CellValue)) (cells : List CellValue) (type : PackedType) (made : Result (Option Codes) AllocError) → All (λ n. n < length rows) numbers
-    → cells ≡ column_of rows place → cells_of_type type (numbers_of cells) ≡ cells → IfOk made (λ m. IfSome m (HaveNumberCodes (numbers_of cells) numbers))
+pub number-codes-made : (place : ℕ) (numbers : List ℕ) (rows : List (List CellValue)) (cells : List CellValue) (type : NumberKind) (made : Result (Option Codes) AllocError) → All (λ n. n < length rows) numbers
+    → cells ≡ column_of rows place → cells_of_kind type (numbers_of cells) ≡ cells → IfOk made (λ m. IfSome m (HaveNumberCodes (numbers_of cells) numbers))
     → IfOk made (λ m. IfSome m (HaveCodesOf (value_alone place) (numbered numbers rows)))
 number-codes-made place numbers rows cells type (Ok (Some made)) within column typed have = number-codes place numbers rows cells type made within column typed have
 number-codes-made place numbers rows cells type (Ok None) within column typed have = tt

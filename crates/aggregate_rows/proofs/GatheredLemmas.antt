@@ -15,11 +15,12 @@ use Rattle.row_columns.specs.Picked.{numbered}
 use Rattle.aggregate_rows.specs.declared.aggregator.Aggregator.{Aggregator}
 use Rattle.aggregate_rows.specs.declared.groups.Groups.{Groups}
 use Rattle.aggregate_rows.specs.declared.accumulator.Accumulator.{Accumulator}
-use Rattle.aggregate_rows.specs.Gathered.{gathered_rows, key_width, group_keys, part_of, rows_gathered, Adjoins, HasGroups, JoinsGroups, MayJoin, MayJoinGroups}
+use Rattle.aggregate_rows.specs.Gathered.{gathered_rows, key_width, plain_aggregates, group_keys, part_of, rows_gathered, Adjoins, HasGroups, JoinsGroups, MayJoin, MayJoinGroups}
 use Rattle.aggregate_rows.specs.Tallies.{AreAccumulators, FitsAll}
 use Rattle.aggregate_rows.proofs.FitLemmas.{all_fit_front}
 use Rattle.aggregate_rows.proofs.GroupLemmas.{joins}
 use Rattle.aggregate_rows.proofs.ListLemmas.{zip_at, zip_long}
+use Rattle.aggregate_rows.proofs.OnceLemmas.{true_of_each}
 use Rattle.aggregate_rows.proofs.ValueLemmas.{values_append}
 
 -- the accumulators of a group
@@ -126,26 +127,27 @@ module _ (places : Option (List ℕ)) (aggregates : List Aggregate) (groups : Gr
       let many = as_many_keys in
       sym (get_or-map (λ key. map value_view key.items) groups.keys.keys i d [] (omega arith)) ∙ ap (λ ks. get_or ks i []) has.keys_are
 
-  pub row_more : (i : ℕ) (row : List CellValue) → i < length groups.accumulators.items
-      → row ≡ get_or (group_keys places rows) i [] ++ map (computed_value (part_of places rows (get_or (group_keys places rows) i []))) aggregates
-      → take (i + 1) (rows_gathered places aggregates rows) ≡ take i (rows_gathered places aggregates rows) ++ row ∷ []
-  row_more i row h is =
+  pub row_more : (shown : List Aggregate) (i : ℕ) (row : List CellValue) → i < length groups.accumulators.items
+      → row ≡ get_or (group_keys places rows) i [] ++ map (computed_value (part_of places rows (get_or (group_keys places rows) i []))) shown
+      → take (i + 1) (rows_gathered places shown rows) ≡ take i (rows_gathered places shown rows) ++ row ∷ []
+  row_more shown i row h is =
       let many = as_many in
-      let long = length-map (group_keys places rows) (λ key. key ++ map (computed_value (part_of places rows key)) aggregates) in
-      take_more (rows_gathered places aggregates rows) i [] (omega arith)
-      ∙ ap (λ r. take i (rows_gathered places aggregates rows) ++ r ∷ [])
-      (get_or-map (λ key. key ++ map (computed_value (part_of places rows key)) aggregates) (group_keys places rows) i [] [] (omega arith) ∙ sym is)
+      let long = length-map (group_keys places rows) (λ key. key ++ map (computed_value (part_of places rows key)) shown) in
+      take_more (rows_gathered places shown rows) i [] (omega arith)
+      ∙ ap (λ r. take i (rows_gathered places shown rows) ++ r ∷ [])
+      (get_or-map (λ key. key ++ map (computed_value (part_of places rows key)) shown) (group_keys places rows) i [] [] (omega arith) ∙ sym is)
 
-  -- each row has as many columns
+-- each row has as many columns
+module _ (places : Option (List ℕ)) (shown : List Aggregate) (rows : List (List CellValue)) where
   wide : (n : ℕ) (keys : List (List CellValue)) → AllByRecursion (λ v. length v ≡ n) keys
-      → AllByRecursion (λ r. length r ≡ n + length aggregates) (map (λ key. key ++ map (computed_value (part_of places rows key)) aggregates) keys)
+      → AllByRecursion (λ r. length r ≡ n + length shown) (map (λ key. key ++ map (computed_value (part_of places rows key)) shown) keys)
   wide n [] a = tt
   wide n (key ∷ keys) a =
-      let computed = map (computed_value (part_of places rows key)) aggregates in
+      let computed = map (computed_value (part_of places rows key)) shown in
       let first = a.0 in
-      (omega (arith, first, length-append key computed, length-map aggregates (computed_value (part_of places rows key))), wide n keys a.1)
+      (omega (arith, first, length-append key computed, length-map shown (computed_value (part_of places rows key))), wide n keys a.1)
 
-  pub all_wide : AllByRecursion (λ r. length r ≡ key_width places + length aggregates) (rows_gathered places aggregates rows)
+  pub all_wide : AllByRecursion (λ r. length r ≡ key_width places + length shown) (rows_gathered places shown rows)
   all_wide = wide (key_width places) (group_keys places rows) (keys_wide places rows)
 
 -- ---- rows join
@@ -161,20 +163,20 @@ groups_may_join aggregator width more may places aggregates places_are aggregate
   rows = may.rows;
   has = subst (λ ps. HasGroups ps aggregates aggregator.groups may.rows) (sym may.gathers.places_are ∙ places_are)
       (subst (λ plain. HasGroups may.places plain aggregator.groups may.rows) (sym aggregates_are) may.gathers.groups_are);
-  fits = subst (AllByRecursion (FitsAll width (may.rows ++ more))) (sym (aggregates_are ∙ may.gathers.aggregates_are))
-      (plain_fit (FitsAll width (may.rows ++ more)) may.aggregates
-      (recursion_from_All (λ (a : NamedAggregateOf). FitsAll width (may.rows ++ more) a.aggregate) may.aggregates may.fits));
+  fits = subst (AllByRecursion (FitsAll width (may.rows ++ more))) (sym aggregates_are)
+      (true_of_each (FitsAll width (may.rows ++ more)) (plain_aggregates may.aggregates) aggregator.aggregates.items aggregator.shown.items may.gathers.aggregates_are (plain_fit (FitsAll width (may.rows ++ more)) may.aggregates
+      (recursion_from_All (λ (a : NamedAggregateOf). FitsAll width (may.rows ++ more) a.aggregate) may.aggregates may.fits)));
 }
 
 pub groups_join : (old new : Aggregator) (more : List (List CellValue)) (places : Option (List ℕ)) (aggregates : List Aggregate) → new.places ≡ old.places
-    → new.aggregates ≡ old.aggregates → optional_numbers old.places ≡ places → aggregates ≡ old.aggregates.items → JoinsGroups places aggregates old.groups new.groups more
+    → new.aggregates ≡ old.aggregates → new.shown ≡ old.shown → optional_numbers old.places ≡ places → aggregates ≡ old.aggregates.items → JoinsGroups places aggregates old.groups new.groups more
     → Adjoins old new more
-groups_join old new more places aggregates same_places same_aggregates places_are aggregates_are joins = λ wanted named rows g.
+groups_join old new more places aggregates same_places same_aggregates same_shown places_are aggregates_are joins = λ wanted named rows g.
     let is : places ≡ wanted = sym places_are ∙ g.places_are in
     let plain : aggregates ≡ new.aggregates.items = aggregates_are ∙ sym (ap (λ (v : Vec Aggregate Global). v.items) same_aggregates) in
     record {
       places_are = ap optional_numbers same_places ∙ g.places_are;
-      aggregates_are = ap (λ (v : Vec Aggregate Global). v.items) same_aggregates ∙ g.aggregates_are;
+      aggregates_are = rw (same_aggregates, same_shown) g.aggregates_are;
       groups_are =
           subst (λ ps. HasGroups ps new.aggregates.items new.groups (rows ++ more)) is
           (subst (λ as_plain. HasGroups places as_plain new.groups (rows ++ more)) plain

@@ -1,4 +1,5 @@
 pub mod ListLemmas
+pub mod OnceLemmas
 pub mod ExtremeLemmas
 pub mod RowLemmas
 pub mod ValueLemmas

@@ -1,10 +1,11 @@
 -- The rows of `aggregate` and of `groupby` (OData Data Aggregation 4.0, sections 3.2.1 and 3.2.3), gathered while the rows come of which they are computed.
-use Rattle.std.specs.Prelude.{◌≡◌, ◌<◌, ◌+◌, ◌++◌, ℕ, true, false, List, Vec, [], ◌∷◌, Option, Some, None, IfSome, length, map, option_map, slice_index_or}
+use Rattle.std.specs.Prelude.{◌≡◌, ◌≢◌, ◌<◌, ◌+◌, ◌++◌, ℕ, true, false, List, Vec, [], ◌∷◌, Option, Some, None, IfSome, length, map, option_map, slice_index_or}
 use Rattle.std.specs.Global.{Global}
 use Rattle.std.specs.List.{All, AllByRecursion, AllZip, list_any}
 use Rattle.std.specs.Borrow.{Bor}
 use Rattle.cell_types.specs.Value.{CellValue, value_view}
 use Rattle.odata_query.specs.declared.aggregate.Aggregate.{Aggregate}
+use Rattle.odata_query.specs.declared.aggregate.Aggregate.TheVariants.{Count}
 use Rattle.odata_query.specs.Aggregate.{NamedAggregateOf}
 use Rattle.odata_query.specs.Query.{optional_numbers}
 use Rattle.insertion_map.specs.Places.{insert_key}
@@ -13,7 +14,7 @@ use Rattle.aggregate_rows.specs.declared.aggregator.Aggregator.{Aggregator}
 use Rattle.aggregate_rows.specs.declared.groups.Groups.{Groups}
 use Rattle.aggregate_rows.specs.declared.accumulator.Accumulator.{Accumulator}
 use Rattle.aggregate_rows.specs.Groups.{grouped_rows}
-use Rattle.aggregate_rows.specs.Tallies.{AreAccumulators, FitsAll}
+use Rattle.aggregate_rows.specs.Tallies.{aggregates_at, AreAccumulators, FitsAll}
 
 -- one row of aggregates of all rows, or a row for each group of those with the same values in some columns
 abbrev pub gathered_rows : Option (List ℕ) → List NamedAggregateOf → List (List CellValue) → List (List CellValue)
@@ -39,10 +40,21 @@ pub record HasGroups (places : Option (List ℕ)) (aggregates : List Aggregate) 
   pub keys_are : map (λ key. map value_view key.items) groups.keys.keys ≡ group_keys places rows
   pub accumulators_are : AllZip (λ part accumulators. AreAccumulators aggregates part accumulators.items) (map (part_of places rows) (group_keys places rows)) groups.accumulators.items
 
+-- aggregates without their names
+abbrev pub plain_aggregates : List NamedAggregateOf → List Aggregate
+plain_aggregates aggregates = map (λ a. a.aggregate) aggregates
+
+-- aggregates of which no two are the same, and where each of some named ones is among them: each is one of the named ones
+pub record AreOnce (named : List Aggregate) (once : List Aggregate) (shown : List ℕ) : Type 0 where
+  pub are : aggregates_at shown once ≡ named
+  pub within : All (λ place. place < length once) shown
+  pub differ : (i j : ℕ) → i < j → j < length once → slice_index_or once i Count ≢ slice_index_or once j Count
+  pub no_others : (i : ℕ) → i < length once → (j : ℕ) × (j < length named) × (slice_index_or named j Count ≡ slice_index_or once i Count)
+
 -- The rows joined, one after another: for these aggregates, of all of them or of the groups by their values in some columns.
 pub record Gathers (aggregator : Aggregator) (places : Option (List ℕ)) (aggregates : List NamedAggregateOf) (rows : List (List CellValue)) : Type 0 where
   pub places_are : optional_numbers aggregator.places ≡ places
-  pub aggregates_are : aggregator.aggregates.items ≡ map (λ a. a.aggregate) aggregates
+  pub aggregates_are : AreOnce (plain_aggregates aggregates) aggregator.aggregates.items aggregator.shown.items
   pub groups_are : HasGroups places aggregator.aggregates.items aggregator.groups rows
 
 -- more rows, of `width` columns, may join: some did, and the aggregates can be computed of all of them
@@ -105,7 +117,12 @@ key_width (Some places) = length places
 abbrev pub rows_gathered : Option (List ℕ) → List Aggregate → List (List CellValue) → List (List CellValue)
 rows_gathered places aggregates rows = map (λ key. key ++ map (computed_value (part_of places rows key)) aggregates) (group_keys places rows)
 
--- those rows are made of the groups of any rows
-abbrev pub MakesRows : Groups → List Aggregate → List (List CellValue) → Type 0
-MakesRows groups aggregates made = (places : Option (List ℕ)) (rows : List (List CellValue)) → HasGroups places aggregates groups rows
-    → made ≡ rows_gathered places aggregates rows
+-- the groups are those of some rows, with keys of that many columns, and these places are among the aggregates
+abbrev pub HaveShown : Groups → ℕ → List ℕ → Type 0
+HaveShown groups width shown =
+    (places : Option (List ℕ)) × (aggregates : List Aggregate) × (rows : List (List CellValue)) × HasGroups places aggregates groups rows × (key_width places ≡ width) × All (λ place. place < length aggregates) shown
+
+-- those rows are made of the groups of any rows, by the aggregates at places
+abbrev pub MakesRows : Groups → List ℕ → List (List CellValue) → Type 0
+MakesRows groups shown made = (places : Option (List ℕ)) (aggregates : List Aggregate) (rows : List (List CellValue)) → HasGroups places aggregates groups rows
+    → made ≡ rows_gathered places (aggregates_at shown aggregates) rows

@@ -3,34 +3,21 @@ use Rattle.std.specs.Prelude.{ℕ, ℤ, ◌+ℤ◌, ◌≡◌, ◌++◌, length,
 use Rattle.std.specs.Int.{w128}
 use Rattle.std.specs.List.{filter_map}
 use Rattle.block_summary.specs.Ranges.{column_of}
-use Rattle.block_summary.specs.Types.{cells_of_type, numbers_of}
-use Rattle.block_summary.specs.declared.number.PackedType.{PackedType}
-use Rattle.block_summary.specs.declared.number.PackedType.TheVariants.{Integer, Decimal}
+use Rattle.block_summary.specs.Types.{cells_of_kind, numbers_of}
+use Rattle.cell_types.specs.declared.kind.NumberKind.{NumberKind}
 use Rattle.cell_types.specs.Value.{CellValue}
-use Rattle.row_eval.specs.Row.{cell, decimal_in, integer_in}
+use Rattle.row_eval.specs.Row.{cell, number_in}
 use Rattle.query_meaning.specs.Apply.{integer_sum}
 use Rattle.query_meaning.specs.Fitting.{AreSummable}
-use Rattle.aggregate_rows.specs.declared.sums.Summed.{Summed}
-use Rattle.aggregate_rows.specs.declared.sums.Summed.TheVariants.{Integers, Decimals}
-
--- the number of a value of that kind
-abbrev pub read_of : Summed → CellValue → Option ℤ
-read_of Integers = integer_in
-read_of Decimals = decimal_in
-
--- what such numbers stand for where a block keeps them
-abbrev pub summed_type : Summed → PackedType
-summed_type Integers = Integer
-summed_type Decimals = Decimal
 
 -- the numbers that rows have in a column
-abbrev pub numbers_in : Summed → ℕ → List (List CellValue) → List ℤ
-numbers_in summed place rows = filter_map (λ row. cell (read_of summed) row place) rows
+abbrev pub numbers_in : NumberKind → ℕ → List (List CellValue) → List ℤ
+numbers_in kind place rows = filter_map (λ row. cell (number_in kind) row place) rows
 
 -- the cells are those that rows have in a column, and all are null or numbers of that kind
-pub record IsKeptAs (summed : Summed) (place : ℕ) (rows : List (List CellValue)) (cells : List CellValue) : Type 0 where
+pub record IsKeptAs (kind : NumberKind) (place : ℕ) (rows : List (List CellValue)) (cells : List CellValue) : Type 0 where
   pub column : cells ≡ column_of rows place
-  pub typed : cells_of_type (summed_type summed) (numbers_of cells) ≡ cells
+  pub typed : cells_of_kind kind (numbers_of cells) ≡ cells
 
 -- the numbers that stand for those of the cells that have these places
 abbrev pub numbers_at : List CellValue → List ℕ → List ℤ
@@ -52,7 +39,7 @@ FitSums (Some n) (Some m) = FitsSigned w128 (n +ℤ m)
 FitSums _ _ = Unit {0}
 
 -- more rows may join those of which that is the sum: the sum of all fits
-pub record MaySum (summed : Summed) (place : ℕ) (sum : Option ℤ) (more : List (List CellValue)) : Type 0 where
+pub record MaySum (kind : NumberKind) (place : ℕ) (sum : Option ℤ) (more : List (List CellValue)) : Type 0 where
   pub rows : List (List CellValue)
-  pub sum_is : sum ≡ sum_of (numbers_in summed place rows)
-  pub fits : AreSummable (numbers_in summed place (rows ++ more)) (length (rows ++ more))
+  pub sum_is : sum ≡ sum_of (numbers_in kind place rows)
+  pub fits : AreSummable (numbers_in kind place (rows ++ more)) (length (rows ++ more))

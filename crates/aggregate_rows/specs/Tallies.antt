@@ -1,5 +1,5 @@
 -- What is kept of rows while they come, for each aggregate (OData Data Aggregation 4.0, section 3.1.3).
-use Rattle.std.specs.Prelude.{◌≡◌, ◌<◌, ◌++◌, ◌^◌, ℕ, List, length, map}
+use Rattle.std.specs.Prelude.{◌≡◌, ◌<◌, ◌++◌, ◌^◌, ℕ, List, length, map, slice_index_or}
 use Rattle.std.specs.List.{AllByRecursion, AllZip, list_any}
 use Rattle.std.specs.Set.{distinct_count}
 use Rattle.cell_types.specs.Value.{CellValue, value_eq, value_view}
@@ -17,14 +17,23 @@ pub record HasDistinct (keys values : List CellValue) : Type 0 where
   pub count : length keys ≡ distinct_count value_eq values
   pub same : (v : CellValue) → list_any (value_eq v) keys ≡ list_any (value_eq v) values
 
+-- the place of the column of which an accumulator is
+abbrev pub own_place : Accumulator → ℕ
+own_place (accumulator.Count _) = 0
+own_place (accumulator.SumOfIntegers place _) = place
+own_place (accumulator.SumOfDecimals place _) = place
+own_place (accumulator.Min place _) = place
+own_place (accumulator.Max place _) = place
+own_place (accumulator.CountDistinct place _) = place
+
 -- how many rows there were; the sum of their numbers; the least or the greatest of their values; each of their values
 abbrev pub IsAccumulator : Aggregate → List (List CellValue) → Accumulator → Type 0
 IsAccumulator Count rows (accumulator.Count count) = count ≡ length rows
-IsAccumulator (SumOfIntegers place) rows (accumulator.Sum sum) = sum ≡ sum_of (integers_in place rows)
-IsAccumulator (SumOfDecimals place) rows (accumulator.Sum sum) = sum ≡ sum_of (decimals_in place rows)
-IsAccumulator (Min place) rows (accumulator.Extreme value) = value_view value ≡ computed_value rows (Min place)
-IsAccumulator (Max place) rows (accumulator.Extreme value) = value_view value ≡ computed_value rows (Max place)
-IsAccumulator (CountDistinct place) rows (accumulator.Distinct values) = HasDistinct (map value_view values.keys) (present_values place rows)
+IsAccumulator (SumOfIntegers place) rows (accumulator.SumOfIntegers own sum) = (own ≡ place) × (sum ≡ sum_of (integers_in place rows))
+IsAccumulator (SumOfDecimals place) rows (accumulator.SumOfDecimals own sum) = (own ≡ place) × (sum ≡ sum_of (decimals_in place rows))
+IsAccumulator (Min place) rows (accumulator.Min own value) = (own ≡ place) × (value_view value ≡ computed_value rows (Min place))
+IsAccumulator (Max place) rows (accumulator.Max own value) = (own ≡ place) × (value_view value ≡ computed_value rows (Max place))
+IsAccumulator (CountDistinct place) rows (accumulator.CountDistinct own values) = (own ≡ place) × HasDistinct (map value_view values.keys) (present_values place rows)
 IsAccumulator _ _ _ = ⊥
 
 -- of each aggregate
@@ -71,6 +80,11 @@ pub record MayTallyEach (aggregates : List Aggregate) (width : ℕ) (old : List 
 abbrev pub TalliesEach : List Aggregate → List Accumulator → List Accumulator → List (List CellValue) → Type 0
 TalliesEach aggregates old new more = (rows : List (List CellValue)) → AreAccumulators aggregates rows old → AreAccumulators aggregates (rows ++ more) new
 
--- after the values of a key, what is computed of rows by their accumulators
-abbrev pub IsRowOfAccumulators : List CellValue → List Aggregate → List Accumulator → List CellValue → Type 0
-IsRowOfAccumulators key aggregates accumulators row = (rows : List (List CellValue)) → AreAccumulators aggregates rows accumulators → row ≡ key ++ map (computed_value rows) aggregates
+-- the aggregates at places
+abbrev pub aggregates_at : List ℕ → List Aggregate → List Aggregate
+aggregates_at shown aggregates = map (λ place. slice_index_or aggregates place Count) shown
+
+-- after the values of a key, what is computed of rows by some of their accumulators
+abbrev pub IsRowOfAccumulators : List CellValue → List Aggregate → List ℕ → List Accumulator → List CellValue → Type 0
+IsRowOfAccumulators key aggregates shown accumulators row = (rows : List (List CellValue)) → AreAccumulators aggregates rows accumulators
+    → row ≡ key ++ map (computed_value rows) (aggregates_at shown aggregates)

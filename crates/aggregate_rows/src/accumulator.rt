@@ -2,20 +2,21 @@
 ghost use Rattle.std.specs.Prelude.{◌≡◌, ◌<◌, ◌++◌, ◌∷◌, [], filter, List, OnOk, if◌then◌else◌, length, map};
 ghost use Rattle.std.specs.List.{All};
 ghost use Rattle.cell_types.specs.Value.{CellValue, value_view};
+ghost use Rattle.odata_query.specs.declared.aggregate.Aggregate.{Aggregate};
 ghost use Rattle.odata_query.specs.declared.aggregate.Aggregate.TheVariants.{Max, Min};
 ghost use Rattle.query_meaning.specs.Apply.{computed_value, is_value};
 ghost use Rattle.row_columns.specs.Picked.{numbered};
 ghost use Rattle.aggregate_rows.specs.Computed.{greater_value, lesser_value};
 ghost use Rattle.aggregate_rows.specs.Sums.{numbers_in, sum_of, MaySum};
-ghost use Rattle.aggregate_rows.specs.Tallies.{IsAccumulator, JoinsDistinct, JoinsExtreme, JoinsValues, MayTally, Tallies};
+ghost use Rattle.aggregate_rows.specs.Tallies.{own_place, IsAccumulator, JoinsDistinct, JoinsExtreme, JoinsValues, MayTally, Tallies};
 
 use crate::computed::{greatest, is_null, least};
 use crate::kept::sum_of_rows;
-use crate::sums::{Summed, joined_sum};
-use cell_types::Value;
+use crate::sums::joined_sum;
+use cell_types::{NumberKind, Value, lent, owned};
 use insertion_map::KeyPlaces;
 use odata_query::Aggregate;
-use row_columns::{Columns, lent, owned};
+use row_columns::Columns;
 use row_selection::Selection;
 use std::alloc::{AllocError, Global};
 
@@ -24,12 +25,16 @@ use std::alloc::{AllocError, Global};
 pub(crate) enum Accumulator {
     /// The number of the rows.
     Count(u64),
-    /// The sum of their numbers, if they have any.
-    Sum(Option<i128>),
-    /// The least or the greatest of their values; null if they have none.
-    Extreme(Value<'static>),
-    /// Their values, each once.
-    Distinct(KeyPlaces<Value<'static>>),
+    /// The sum of their integers in a column, if they have any.
+    SumOfIntegers(usize, Option<i128>),
+    /// The sum of their decimals in a column, in millionths, if they have any.
+    SumOfDecimals(usize, Option<i128>),
+    /// The least of their values in a column; null if they have none.
+    Min(usize, Value<'static>),
+    /// The greatest of their values in a column; null if they have none.
+    Max(usize, Value<'static>),
+    /// Their values in a column, each once.
+    CountDistinct(usize, KeyPlaces<Value<'static>>),
 }
 
 impl Accumulator {
@@ -39,68 +44,77 @@ impl Accumulator {
     {
         match aggregate {
             Aggregate::Count => Accumulator::Count(0),
-            Aggregate::SumOfIntegers(_) | Aggregate::SumOfDecimals(_) => Accumulator::Sum(None),
-            Aggregate::Min(_) | Aggregate::Max(_) => Accumulator::Extreme(Value::Null),
-            Aggregate::CountDistinct(_) => Accumulator::Distinct(KeyPlaces::new(alloc)),
+            Aggregate::SumOfIntegers(place) => Accumulator::SumOfIntegers(place, None),
+            Aggregate::SumOfDecimals(place) => Accumulator::SumOfDecimals(place, None),
+            Aggregate::Min(place) => Accumulator::Min(place, Value::Null),
+            Aggregate::Max(place) => Accumulator::Max(place, Value::Null),
+            Aggregate::CountDistinct(place) => {
+                Accumulator::CountDistinct(place, KeyPlaces::new(alloc))
+            }
         }
     }
 
-    /// Returns the rows with these numbers join.
+    /// Returns the place of its column; 0 for the number of the rows, which has none.
+    fn place(&self) -> usize
+        ensures { result ≡ own_place self.now }
+    {
+        match self {
+            Accumulator::Count(_) => 0,
+            Accumulator::SumOfIntegers(place, _)
+            | Accumulator::SumOfDecimals(place, _)
+            | Accumulator::Min(place, _)
+            | Accumulator::Max(place, _)
+            | Accumulator::CountDistinct(place, _) => *place,
+        }
+    }
+
+    /// Joins the rows with these numbers to those before.
     pub(crate) fn join(
         &mut self,
         alloc: Global,
         columns: &Columns,
         numbers: &Selection,
-        aggregate: Aggregate,
     ) -> Result<(), AllocError>
         requires within { All (λ number. number < length columns.now.rows) numbers.now }
-        requires joins { MayTally aggregate (length columns.now.kinds) self.old
-            (numbered numbers.now columns.now.rows) }
-        ensures { OnOk result (Tallies aggregate self.old self.new
+        requires joins { (aggregate : Aggregate) × MayTally aggregate (length columns.now.kinds)
+            self.old (numbered numbers.now columns.now.rows) }
+        ensures { OnOk result ((aggregate : Aggregate) → Tallies aggregate self.old self.new
             (numbered numbers.now columns.now.rows)) }
     {
-        match (&mut *self, aggregate) {
-            (Accumulator::Count(count), Aggregate::Count) => {
+        let place = self.place();
+        match self {
+            Accumulator::Count(count) => {
                 *count += numbers.len() as u64;
             }
-            (Accumulator::Sum(sum), Aggregate::SumOfIntegers(place)) => {
-                *sum = sum_behind(*sum, columns, numbers, place, Summed::Integers);
+            Accumulator::SumOfIntegers(_, sum) => {
+                *sum = sum_behind(*sum, columns, numbers, place, NumberKind::Integer);
             }
-            (Accumulator::Sum(sum), Aggregate::SumOfDecimals(place)) => {
-                *sum = sum_behind(*sum, columns, numbers, place, Summed::Decimals);
+            Accumulator::SumOfDecimals(_, sum) => {
+                *sum = sum_behind(*sum, columns, numbers, place, NumberKind::Decimal);
             }
-            (Accumulator::Extreme(value), Aggregate::Min(place)) => {
-                join_least(value, alloc, columns, numbers, place)?;
-            }
-            (Accumulator::Extreme(value), Aggregate::Max(place)) => {
-                join_greatest(value, alloc, columns, numbers, place)?;
-            }
-            (Accumulator::Distinct(values), Aggregate::CountDistinct(place)) => {
+            Accumulator::Min(_, value) => join_least(value, alloc, columns, numbers, place)?,
+            Accumulator::Max(_, value) => join_greatest(value, alloc, columns, numbers, place)?,
+            Accumulator::CountDistinct(_, values) => {
                 join_values(values, alloc, columns, numbers, place)?;
             }
-            _ => unreachable!(),
         }
         Ok(())
     }
 
     /// Returns what the aggregate computes of the rows.
-    pub(crate) fn value(&self, aggregate: Aggregate) -> Value<'_>
-        requires { (rows : List (List CellValue)) × IsAccumulator aggregate rows self.now }
-        ensures { (rows : List (List CellValue)) → IsAccumulator aggregate rows self.now
+    pub(crate) fn value(&self) -> Value<'_>
+        ensures { (aggregate : Aggregate) (rows : List (List CellValue))
+            → IsAccumulator aggregate rows self.now
             → value_view result ≡ computed_value rows aggregate }
     {
-        match (self, aggregate) {
-            (Accumulator::Count(count), Aggregate::Count) => Value::Int((*count).into()),
-            (Accumulator::Sum(None), Aggregate::SumOfIntegers(_)) => Value::Null,
-            (Accumulator::Sum(Some(sum)), Aggregate::SumOfIntegers(_)) => Value::Int(*sum),
-            (Accumulator::Sum(None), Aggregate::SumOfDecimals(_)) => Value::Null,
-            (Accumulator::Sum(Some(sum)), Aggregate::SumOfDecimals(_)) => Value::Decimal(*sum),
-            (Accumulator::Extreme(value), Aggregate::Min(_)) => lent(value),
-            (Accumulator::Extreme(value), Aggregate::Max(_)) => lent(value),
-            (Accumulator::Distinct(values), Aggregate::CountDistinct(_)) => {
-                Value::Int(values.len() as i128)
-            }
-            _ => unreachable!(),
+        match self {
+            Accumulator::Count(count) => Value::Int((*count).into()),
+            Accumulator::SumOfIntegers(_, Some(sum)) => Value::Int(*sum),
+            Accumulator::SumOfDecimals(_, Some(sum)) => Value::Decimal(*sum),
+            Accumulator::SumOfIntegers(_, None) => Value::Null,
+            Accumulator::SumOfDecimals(_, None) => Value::Null,
+            Accumulator::Min(_, value) | Accumulator::Max(_, value) => lent(value),
+            Accumulator::CountDistinct(_, values) => Value::Int(values.len() as i128),
         }
     }
 }
@@ -111,18 +125,18 @@ fn sum_behind(
     columns: &Columns,
     numbers: &Selection,
     place: usize,
-    summed: Summed,
+    kind: NumberKind,
 ) -> Option<i128>
     requires within { All (λ number. number < length columns.now.rows) numbers.now }
     requires place { place < length columns.now.kinds }
-    requires joins { MaySum summed place sum (numbered numbers.now columns.now.rows) }
-    ensures { (rows : List (List CellValue)) → sum ≡ sum_of (numbers_in summed place rows)
-        → result ≡ sum_of (numbers_in summed place (rows ++ numbered numbers.now columns.now.rows)) }
+    requires joins { MaySum kind place sum (numbered numbers.now columns.now.rows) }
+    ensures { (rows : List (List CellValue)) → sum ≡ sum_of (numbers_in kind place rows)
+        → result ≡ sum_of (numbers_in kind place (rows ++ numbered numbers.now columns.now.rows)) }
 {
-    joined_sum(sum, sum_of_rows(columns, numbers, place, summed))
+    joined_sum(sum, sum_of_rows(columns, numbers, place, kind))
 }
 
-/// Returns the least value that some rows and then the rows with these numbers have in a column.
+/// Makes the least value that some rows have in a column that of these and the rows with these numbers.
 fn join_least(
     value: &mut Value<'static>,
     alloc: Global,
@@ -141,7 +155,7 @@ fn join_least(
     replace_if(wins, value, alloc, &other)
 }
 
-/// Returns the greatest value that some rows and then the rows with these numbers have in a column.
+/// Makes the greatest value that some rows have in a column that of these and the rows with these numbers.
 fn join_greatest(
     value: &mut Value<'static>,
     alloc: Global,
@@ -200,7 +214,7 @@ fn is_more(value: &Value<'_>, other: &Value<'_>) -> bool
     is_null(other) || other.cmp(value).is_lt()
 }
 
-/// Returns the values that rows have in a column join those of other rows. A value is looked up before it is copied.
+/// Adds the values that rows have in a column to those of other rows. A value is looked up before it is copied.
 fn join_values(
     values: &mut KeyPlaces<Value<'static>>,
     alloc: Global,

@@ -3,12 +3,13 @@ ghost use Rattle.std.specs.Prelude.{◌<◌, [], IfOk, List, OnOk, length, map};
 ghost use Rattle.std.specs.List.{All};
 ghost use Rattle.cell_types.specs.Value.{CellValue, value_view};
 ghost use Rattle.row_columns.specs.Picked.{numbered};
+ghost use Rattle.odata_query.specs.declared.aggregate.Aggregate.{Aggregate};
 ghost use Rattle.aggregate_rows.specs.Tallies.{AreAccumulators, IsRowOfAccumulators, MayTallyEach, TalliesEach};
 
 use crate::accumulator::Accumulator;
-use cell_types::Value;
+use cell_types::{Value, owned};
 use odata_query::Aggregate;
-use row_columns::{Columns, owned};
+use row_columns::Columns;
 use row_selection::Selection;
 use std::alloc::{AllocError, Global};
 
@@ -26,44 +27,45 @@ pub(crate) fn accumulators_of_none(
     Ok(accumulators)
 }
 
-/// Returns the rows with these numbers join.
+/// Joins the rows with these numbers to those before.
 pub(crate) fn join_each(
     alloc: Global,
     accumulators: &mut Vec<Accumulator>,
     columns: &Columns,
     numbers: &Selection,
-    aggregates: &[Aggregate],
 ) -> Result<(), AllocError>
     requires within { All (λ number. number < length columns.now.rows) numbers.now }
-    requires joins { MayTallyEach aggregates.now (length columns.now.kinds) accumulators.old.items
+    requires joins { (aggregates : List Aggregate)
+        × MayTallyEach aggregates (length columns.now.kinds) accumulators.old.items
         (numbered numbers.now columns.now.rows) }
-    ensures { OnOk result (TalliesEach aggregates.now accumulators.old.items accumulators.new.items
+    ensures { OnOk result ((aggregates : List Aggregate)
+        → TalliesEach aggregates accumulators.old.items accumulators.new.items
         (numbered numbers.now columns.now.rows)) }
 {
-    for i in 0..aggregates.len() {
-        accumulators[i].join(alloc, columns, numbers, aggregates[i])?;
+    for i in 0..accumulators.len() {
+        accumulators[i].join(alloc, columns, numbers)?;
     }
     Ok(())
 }
 
-/// Returns the values of a key, and after them what is computed.
+/// Returns the values of a key, and after them what the accumulators at `shown` computed.
 pub(crate) fn row_of(
     alloc: Global,
     key: &[Value<'static>],
-    accumulators: &Vec<Accumulator>,
-    aggregates: &[Aggregate],
+    accumulators: &[Accumulator],
+    shown: &[usize],
 ) -> Result<Vec<Value<'static>>, AllocError>
-    requires { (rows : List (List CellValue))
-        × AreAccumulators aggregates.now rows accumulators.now.items }
-    ensures { IfOk result (λ row. IsRowOfAccumulators (map value_view key.now) aggregates.now
-        accumulators.now.items (map value_view row.items)) }
+    requires { All (λ place. place < length accumulators.now) shown.now }
+    ensures { IfOk result (λ row. (aggregates : List Aggregate)
+        → IsRowOfAccumulators (map value_view key.now) aggregates shown.now accumulators.now
+        (map value_view row.items)) }
 {
     let mut row = Vec::with_capacity(alloc, key.len())?;
     for value in key {
         row.push(owned(alloc, value)?)?;
     }
-    for i in 0..aggregates.len() {
-        row.push(owned(alloc, &accumulators[i].value(aggregates[i]))?)?;
+    for place in shown {
+        row.push(owned(alloc, &accumulators[*place].value())?)?;
     }
     Ok(row)
 }

@@ -1,11 +1,12 @@
 //! Rows of `aggregate` and of `groupby` (OData Data Aggregation 4.0, sections 3.2.1 and 3.2.3), gathered while the rows come of which they
 //! are computed.
-ghost use Rattle.std.specs.Prelude.{◌≡◌, ◌<◌, ℕ, [], IfOk, IfSome, List, OnOk, Option, length, map};
+ghost use Rattle.std.specs.Prelude.{◌≡◌, ◌≢◌, ◌↔◌, ◌<◌, ◌≤◌, ℕ, [], IfOk, IfSome, IsTrue, List, OnOk, Option, length, map, slice_index_or};
 ghost use Rattle.std.specs.List.{All};
 ghost use Rattle.cell_types.specs.Value.{CellValue};
+ghost use Rattle.odata_query.specs.declared.aggregate.Aggregate.TheVariants.{Count};
 ghost use Rattle.odata_query.specs.Aggregate.{named_view, NamedAggregateOf};
 ghost use Rattle.row_columns.specs.Picked.{numbered};
-ghost use Rattle.aggregate_rows.specs.Gathered.{gathered_rows, gathered_width, lent_places, Gathers, HasGatheredRows, HasGatheredWidth, Adjoins, MayJoin};
+ghost use Rattle.aggregate_rows.specs.Gathered.{gathered_rows, gathered_width, lent_places, plain_aggregates, AreOnce, Gathers, HasGatheredRows, HasGatheredWidth, Adjoins, MayJoin};
 ghost use Rattle.aggregate_rows.specs.Tallies.{FitsAll};
 
 use crate::groups::{Grouping, Groups};
@@ -19,7 +20,10 @@ use std::alloc::{AllocError, Global};
 pub struct Aggregator {
     /// The columns by whose values rows are grouped; without them all rows are one group.
     pub(crate) places: Option<Vec<usize>>,
+    /// The aggregates, each once, however many names it has.
     pub(crate) aggregates: Vec<Aggregate>,
+    /// Where each value that is computed is among them, by its name.
+    pub(crate) shown: Vec<usize>,
     pub(crate) groups: Groups,
 }
 
@@ -33,19 +37,21 @@ impl Aggregator {
         ensures { IfOk result (λ made. Gathers made (lent_places places.entry)
             (map named_view aggregates.now) []) }
     {
-        let aggregates = aggregates_of(alloc, aggregates)?;
+        let Once { aggregates, shown } = each_once(alloc, aggregates)?;
         match places {
             None => {
                 let groups = Groups::whole(alloc, &aggregates)?;
                 Ok(Aggregator {
                     places: None,
                     aggregates,
+                    shown,
                     groups,
                 })
             }
             Some(places) => Ok(Aggregator {
                 places: Some(Vec::from_slice(alloc, places)?),
                 aggregates,
+                shown,
                 groups: Groups::none(alloc),
             }),
         }
@@ -64,9 +70,7 @@ impl Aggregator {
         ensures { OnOk result (Adjoins self.old self.new (numbered numbers.now columns.now.rows)) }
     {
         match &self.places {
-            None => self
-                .groups
-                .join_whole(alloc, columns, numbers, &self.aggregates),
+            None => self.groups.join_whole(alloc, columns, numbers),
             Some(places) => {
                 let grouping = Grouping {
                     places,
@@ -88,7 +92,7 @@ impl Aggregator {
             None => 0,
             Some(places) => places.len(),
         };
-        self.groups.rows(alloc, width, &self.aggregates)
+        self.groups.rows(alloc, width, &self.shown)
     }
 }
 
@@ -114,14 +118,59 @@ pub fn gathered(
     aggregator.finish(alloc)
 }
 
-/// Returns the aggregates without their names.
-fn aggregates_of(alloc: Global, aggregates: &[NamedAggregate]) -> Result<Vec<Aggregate>, AllocError>
-    ensures { IfOk result (λ made. made.items
-        ≡ map (λ a. a.aggregate) (map named_view aggregates.now)) }
+/// Aggregates, each once, and the place among them of each that is asked for.
+#[derive(Drop)]
+struct Once {
+    aggregates: Vec<Aggregate>,
+    shown: Vec<usize>,
+}
+
+/// Returns true if two aggregates are the same.
+fn are_same(one: Aggregate, other: Aggregate) -> bool
+    ensures { IsTrue result ↔ (one ≡ other) }
 {
-    let mut made = Vec::with_capacity(alloc, aggregates.len())?;
-    for named in aggregates {
-        made.push(named.aggregate)?;
+    match (one, other) {
+        (Aggregate::Count, Aggregate::Count) => true,
+        (Aggregate::SumOfIntegers(one), Aggregate::SumOfIntegers(other))
+        | (Aggregate::SumOfDecimals(one), Aggregate::SumOfDecimals(other))
+        | (Aggregate::Min(one), Aggregate::Min(other))
+        | (Aggregate::Max(one), Aggregate::Max(other))
+        | (Aggregate::CountDistinct(one), Aggregate::CountDistinct(other)) => one == other,
+        _ => false,
     }
-    Ok(made)
+}
+
+/// Returns the place of the first of some aggregates that is the one asked for; their number, if none is.
+fn place_of(aggregates: &[Aggregate], asked: Aggregate) -> usize
+    ensures within { result ≤ length aggregates.now }
+    ensures is { result < length aggregates.now
+        → slice_index_or aggregates.now result Count ≡ asked }
+    ensures first { (i : ℕ) → i < result → slice_index_or aggregates.now i Count ≢ asked }
+{
+    for i in 0..aggregates.len() {
+        if are_same(aggregates[i], asked) {
+            return i;
+        }
+    }
+    aggregates.len()
+}
+
+/// Returns the aggregates, without their names and each once.
+fn each_once(alloc: Global, aggregates: &[NamedAggregate]) -> Result<Once, AllocError>
+    ensures { IfOk result (λ made. AreOnce (plain_aggregates (map named_view aggregates.now))
+        made.aggregates.items made.shown.items) }
+{
+    let mut once = Vec::with_capacity(alloc, aggregates.len())?;
+    let mut shown = Vec::with_capacity(alloc, aggregates.len())?;
+    for named in aggregates {
+        let place = place_of(&once, named.aggregate);
+        if place == once.len() {
+            once.push(named.aggregate)?;
+        }
+        shown.push(place)?;
+    }
+    Ok(Once {
+        aggregates: once,
+        shown,
+    })
 }

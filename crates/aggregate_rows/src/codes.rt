@@ -115,7 +115,7 @@ fn column_codes(
     let Some(column) = columns.packed(place) else {
         return Ok(None);
     };
-    let _packed_type = column.packed_type(); // of that type the cells are what the numbers stand for
+    let _kind = column.kind(); // of that kind the cells are what the numbers stand for
     number_codes(alloc, column, numbers)
 }
 

@@ -6,15 +6,15 @@ ghost use Rattle.odata_query.specs.declared.aggregate.Aggregate.{Aggregate};
 ghost use Rattle.query_meaning.specs.Apply.{values_at};
 ghost use Rattle.row_columns.specs.Kinds.{any};
 ghost use Rattle.row_columns.specs.Picked.{numbered};
-ghost use Rattle.aggregate_rows.specs.Gathered.{key_width, HasGroupMore, HasGroups, IsGroupOf, JoinsGroups, MakesRows, MayJoinGroups};
+ghost use Rattle.aggregate_rows.specs.Gathered.{HasGroupMore, HasGroups, HaveShown, IsGroupOf, JoinsGroups, MakesRows, MayJoinGroups};
 
 use crate::accumulator::Accumulator;
 use crate::accumulators::{accumulators_of_none, join_each, row_of};
 use crate::parts::parts_of;
-use cell_types::Value;
+use cell_types::{Value, owned};
 use insertion_map::KeyPlaces;
 use odata_query::Aggregate;
-use row_columns::{Columns, owned};
+use row_columns::Columns;
 use row_selection::Selection;
 use std::alloc::{AllocError, Global};
 
@@ -61,30 +61,23 @@ impl Groups {
         Ok(groups)
     }
 
-    /// Returns the rows with these numbers join the one group of all rows.
+    /// Joins the rows with these numbers to the one group of all rows.
     pub(crate) fn join_whole(
         &mut self,
         alloc: Global,
         columns: &Columns,
         numbers: &Selection,
-        aggregates: &[Aggregate],
     ) -> Result<(), AllocError>
         requires within { All (λ number. number < length columns.now.rows) numbers.now }
-        requires joins { MayJoinGroups None aggregates.now (length columns.now.kinds) self.old
-            (numbered numbers.now columns.now.rows) }
-        ensures { OnOk result (JoinsGroups None aggregates.now self.old self.new
-            (numbered numbers.now columns.now.rows)) }
+        requires joins { (aggregates : List Aggregate) × MayJoinGroups None aggregates
+            (length columns.now.kinds) self.old (numbered numbers.now columns.now.rows) }
+        ensures { OnOk result ((aggregates : List Aggregate) → JoinsGroups None aggregates self.old
+            self.new (numbered numbers.now columns.now.rows)) }
     {
-        join_each(
-            alloc,
-            &mut self.accumulators[0],
-            columns,
-            numbers,
-            aggregates,
-        )
+        join_each(alloc, &mut self.accumulators[0], columns, numbers)
     }
 
-    /// Returns the rows with these numbers join the groups of their values.
+    /// Joins the rows with these numbers to the groups of their values.
     pub(crate) fn join_rows(
         &mut self,
         alloc: Global,
@@ -104,12 +97,12 @@ impl Groups {
         query_meaning::rows_are_in_groups();
         if let Some(groups) = self.groups_of(alloc, columns, numbers, grouping)? {
             let parts = parts_of(alloc, self.keys.len(), numbers, &groups)?;
-            return self.join_parts(alloc, columns, parts, grouping.aggregates);
+            return self.join_parts(alloc, columns, parts);
         }
         self.join_each_row(alloc, columns, numbers, grouping)
     }
 
-    /// Returns the rows with these numbers join the groups of their values, one after another.
+    /// Joins the rows with these numbers to the groups of their values, one after another.
     fn join_each_row(
         &mut self,
         alloc: Global,
@@ -134,13 +127,7 @@ impl Groups {
             read_key(&mut key, columns, number, places)?;
             let row = Selection::one(number);
             let group = self.group_of(alloc, key.as_slice(), aggregates)?;
-            join_each(
-                alloc,
-                &mut self.accumulators[group],
-                columns,
-                &row,
-                aggregates,
-            )?;
+            join_each(alloc, &mut self.accumulators[group], columns, &row)?;
         }
         Ok(())
     }
@@ -170,27 +157,25 @@ impl Groups {
         }
     }
 
-    /// Returns a row for each group: its values, and what is computed of its rows.
+    /// Returns a row for each group: its values, and what is computed of its rows by the aggregates at `shown`.
     pub(crate) fn rows(
         &self,
         alloc: Global,
         width: usize,
-        aggregates: &[Aggregate],
+        shown: &[usize],
     ) -> Result<Columns, AllocError>
-        requires columns { width + length aggregates.now < 2 ^ 64 }
-        requires gathered { (places : Option (List ℕ)) × (rows : List (List CellValue))
-            × HasGroups places aggregates.now self.now rows
-            × (key_width places ≡ width) }
+        requires columns { width + length shown.now < 2 ^ 64 }
+        requires gathered { HaveShown self.now width shown.now }
         ensures kinds { IfOk result (λ made.
-            made.kinds ≡ replicate (width + length aggregates.now) any) }
-        ensures rows { IfOk result (λ made. MakesRows self.now aggregates.now made.rows) }
+            made.kinds ≡ replicate (width + length shown.now) any) }
+        ensures rows { IfOk result (λ made. MakesRows self.now shown.now made.rows) }
     {
         let keys = self.keys.in_order(alloc)?;
         let mut rows = Vec::with_capacity(alloc, keys.len())?;
         for i in 0..keys.len() {
-            rows.push(row_of(alloc, keys[i].as_slice(), &self.accumulators[i], aggregates)?)?;
+            rows.push(row_of(alloc, keys[i].as_slice(), &self.accumulators[i], shown)?)?;
         }
-        Columns::of_rows(alloc, width + aggregates.len(), rows)
+        Columns::of_rows(alloc, width + shown.len(), rows)
     }
 }
 

@@ -2,18 +2,19 @@
 ghost use Rattle.std.specs.Prelude.{◌≡◌, ◌<◌, ◌≤◌, IfSome, IsTrue, List, length};
 ghost use Rattle.std.specs.List.{All, filter_map};
 ghost use Rattle.block_summary.specs.Ranges.{column_of};
-ghost use Rattle.block_summary.specs.Types.{cells_of_type, numbers_of};
+ghost use Rattle.block_summary.specs.Types.{cells_of_kind, numbers_of};
 ghost use Rattle.cell_types.specs.Value.{CellValue, value_view};
+ghost use Rattle.cell_types.specs.declared.kind.NumberKind.{NumberKind};
 ghost use Rattle.odata_query.specs.declared.aggregate.Aggregate.TheVariants.{Max, Min};
 ghost use Rattle.query_meaning.specs.Apply.{computed_value};
 ghost use Rattle.query_meaning.specs.Fitting.{AreSummable};
 ghost use Rattle.row_columns.specs.Picked.{numbered};
-ghost use Rattle.aggregate_rows.specs.declared.sums.Summed.{Summed};
-ghost use Rattle.aggregate_rows.specs.Sums.{numbers_at, numbers_in, read_of, sum_of, summed_type, IsKeptAs};
+ghost use Rattle.row_eval.specs.Row.{number_in};
+ghost use Rattle.aggregate_rows.specs.Sums.{numbers_at, numbers_in, sum_of, IsKeptAs};
 
-use crate::sums::{Summed, joined_sum, sum_of};
-use block_summary::{PackedColumn, PackedType};
-use cell_types::Value;
+use crate::sums::{joined_sum, sum_of};
+use block_summary::PackedColumn;
+use cell_types::{NumberKind, Value};
 use query_meaning::extremes_are_values;
 use row_columns::Columns;
 use row_selection::Selection;
@@ -83,25 +84,14 @@ pub(crate) fn kept_greatest(
     }
 }
 
-/// Returns true if numbers of that type are summed so.
-fn is_summed(packed_type: PackedType, summed: Summed) -> bool
-    ensures { IsTrue result → packed_type ≡ summed_type summed }
-{
-    match (summed, packed_type) {
-        (Summed::Integers, PackedType::Integer) => true,
-        (Summed::Decimals, PackedType::Decimal) => true,
-        _ => false,
-    }
-}
-
 /// Returns the column of all rows as it is kept, if it has numbers of that kind.
-fn kept_column(columns: &Columns, place: usize, summed: Summed) -> Option<&PackedColumn>
+fn kept_column(columns: &Columns, place: usize, kind: NumberKind) -> Option<&PackedColumn>
     requires { place < length columns.now.kinds }
     ensures { IfSome result
-        (λ column. IsKeptAs summed place columns.now.rows column.now) }
+        (λ column. IsKeptAs kind place columns.now.rows column.now) }
 {
     let column = columns.packed(place)?;
-    if !is_summed(column.packed_type(), summed) {
+    if column.kind() != kind {
         return None;
     }
     Some(column)
@@ -109,9 +99,9 @@ fn kept_column(columns: &Columns, place: usize, summed: Summed) -> Option<&Packe
 
 /// Returns the sum of all numbers of a column; None if it has none. No number is looked at.
 fn whole_sum(column: &PackedColumn) -> Option<i128>
-    ensures { (summed : Summed)
-        → cells_of_type (summed_type summed) (numbers_of column.now) ≡ column.now
-        → result ≡ sum_of (filter_map (read_of summed) column.now) }
+    ensures { (kind : NumberKind)
+        → cells_of_kind kind (numbers_of column.now) ≡ column.now
+        → result ≡ sum_of (filter_map (number_in kind) column.now) }
 {
     if column.null_count() == column.len() {
         return None;
@@ -140,16 +130,16 @@ pub(crate) fn sum_of_rows(
     columns: &Columns,
     numbers: &Selection,
     place: usize,
-    summed: Summed,
+    kind: NumberKind,
 ) -> Option<i128>
     requires within { All (λ number. number < length columns.now.rows) numbers.now }
     requires place { place < length columns.now.kinds }
-    requires fits { AreSummable (numbers_in summed place (numbered numbers.now columns.now.rows))
+    requires fits { AreSummable (numbers_in kind place (numbered numbers.now columns.now.rows))
         (length numbers.now) }
-    ensures { result ≡ sum_of (numbers_in summed place (numbered numbers.now columns.now.rows)) }
+    ensures { result ≡ sum_of (numbers_in kind place (numbered numbers.now columns.now.rows)) }
 {
-    let Some(column) = kept_column(columns, place, summed) else {
-        return sum_of(columns, numbers, place, summed);
+    let Some(column) = kept_column(columns, place, kind) else {
+        return sum_of(columns, numbers, place, kind);
     };
     if are_all(numbers, columns.len()) {
         return whole_sum(column);

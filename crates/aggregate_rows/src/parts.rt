@@ -1,7 +1,8 @@
 //! Rows by their groups, before they join.
-ghost use Rattle.std.specs.Prelude.{◌≡◌, ◌<◌, ◌≤◌, ◌^◌, ℕ, [], IfOk, IfSome, None, OnOk, Some, length, map, slice_index_or};
+ghost use Rattle.std.specs.Prelude.{◌≡◌, ◌<◌, ◌≤◌, ◌^◌, ℕ, [], IfOk, IfSome, List, None, OnOk, Some, length, map, slice_index_or};
 ghost use Rattle.std.specs.List.{All, AllByRecursion};
 ghost use Rattle.cell_types.specs.Value.{value_view};
+ghost use Rattle.odata_query.specs.declared.aggregate.Aggregate.{Aggregate};
 ghost use Rattle.query_meaning.specs.Apply.{values_at};
 ghost use Rattle.row_columns.specs.Picked.{numbered};
 ghost use Rattle.aggregate_rows.specs.Gathered.{HasGroupMore, IsGroupOf};
@@ -11,7 +12,6 @@ use crate::accumulators::join_each;
 use crate::codes::key_codes;
 use crate::groups::{Grouping, Groups};
 use cell_types::Value;
-use odata_query::Aggregate;
 use row_columns::Columns;
 use row_selection::Selection;
 use std::alloc::{AllocError, Global};
@@ -120,32 +120,25 @@ impl Groups {
         self.group_of(alloc, key.as_slice(), grouping.aggregates)
     }
 
-    /// Returns the rows join of which each group has a part.
+    /// Joins to each group the rows of its part.
     pub(crate) fn join_parts(
         &mut self,
         alloc: Global,
         columns: &Columns,
         parts: Vec<Vec<u16>>,
-        aggregates: &[Aggregate],
     ) -> Result<(), AllocError>
         requires within { AllByRecursion (λ part.
             All (λ number. number < length columns.now.rows) part.items) parts.items }
-        requires joins { MayJoinParts aggregates.now (length columns.now.kinds) self.old
-            columns.now.rows parts.items }
+        requires joins { (aggregates : List Aggregate) × MayJoinParts aggregates
+            (length columns.now.kinds) self.old columns.now.rows parts.items }
         ensures keys { OnOk result (self.new.keys ≡ self.old.keys) }
-        ensures joins { OnOk result (JoinsParts aggregates.now self.old self.new columns.now.rows
-            parts.items) }
+        ensures joins { OnOk result ((aggregates : List Aggregate)
+            → JoinsParts aggregates self.old self.new columns.now.rows parts.items) }
     {
         let mut group = 0;
         for part in parts {
             let numbers = Selection::few(part);
-            join_each(
-                alloc,
-                &mut self.accumulators[group],
-                columns,
-                &numbers,
-                aggregates,
-            )?;
+            join_each(alloc, &mut self.accumulators[group], columns, &numbers)?;
             group += 1;
         }
         Ok(())

@@ -3,39 +3,31 @@ ghost use Rattle.std.specs.Prelude.{◌≡◌, ◌<◌, [], length, slice_index_
 ghost use Rattle.std.specs.List.{All};
 ghost use Rattle.query_meaning.specs.Fitting.{AreSummable};
 ghost use Rattle.row_columns.specs.Picked.{numbered};
-ghost use Rattle.row_eval.specs.Row.{cell, decimal_in, integer_in};
-ghost use Rattle.aggregate_rows.specs.Sums.{numbers_in, read_of, sum_of, sums_joined, FitSums};
+ghost use Rattle.row_eval.specs.Row.{cell, number_in as number_in_of};
+ghost use Rattle.aggregate_rows.specs.Sums.{numbers_in, sum_of, sums_joined, FitSums};
 
-use cell_types::Value;
+use cell_types::{NumberKind, number_in};
 use row_columns::Columns;
 use row_selection::Selection;
-
-/// What is summed.
-#[derive(Clone, Copy)]
-pub(crate) enum Summed {
-    Integers,
-    /// In millionths.
-    Decimals,
-}
 
 /// Returns the sum of the numbers of that kind that rows have in a column; None if they have none.
 pub(crate) fn sum_of(
     columns: &Columns,
     numbers: &Selection,
     place: usize,
-    summed: Summed,
+    kind: NumberKind,
 ) -> Option<i128>
     requires within { All (λ number. number < length columns.now.rows) numbers.now }
     requires place { place < length columns.now.kinds }
-    requires fits { AreSummable (numbers_in summed place (numbered numbers.now columns.now.rows))
+    requires fits { AreSummable (numbers_in kind place (numbered numbers.now columns.now.rows))
         (length numbers.now) }
-    ensures { result ≡ sum_of (numbers_in summed place (numbered numbers.now columns.now.rows)) }
+    ensures { result ≡ sum_of (numbers_in kind place (numbered numbers.now columns.now.rows)) }
 {
     let mut sum = None;
     let mut i = numbers.len();
     while i > 0 {
         i -= 1;
-        sum = joined_sum(number_at(columns, numbers.at(i), place, summed), sum);
+        sum = joined_sum(number_at(columns, numbers.at(i), place, kind), sum);
     }
     sum
 }
@@ -54,37 +46,10 @@ pub(crate) fn joined_sum(sum: Option<i128>, more: Option<i128>) -> Option<i128>
 }
 
 /// Returns the number of that kind that a row has in a column.
-fn number_at(columns: &Columns, row: usize, place: usize, summed: Summed) -> Option<i128>
+fn number_at(columns: &Columns, row: usize, place: usize, kind: NumberKind) -> Option<i128>
     requires row { row < length columns.now.rows }
     requires place { place < length columns.now.kinds }
-    ensures { result ≡ cell (read_of summed) (slice_index_or columns.now.rows row []) place }
+    ensures { result ≡ cell (number_in_of kind) (slice_index_or columns.now.rows row []) place }
 {
-    match summed {
-        Summed::Integers => integer_at(columns, row, place),
-        Summed::Decimals => decimal_at(columns, row, place),
-    }
-}
-
-/// Returns the integer that a row has in a column.
-fn integer_at(columns: &Columns, row: usize, place: usize) -> Option<i128>
-    requires row { row < length columns.now.rows }
-    requires place { place < length columns.now.kinds }
-    ensures { result ≡ cell integer_in (slice_index_or columns.now.rows row []) place }
-{
-    match columns.value(row, place) {
-        Value::Int(number) => Some(number),
-        _ => None,
-    }
-}
-
-/// Returns the decimal that a row has in a column.
-fn decimal_at(columns: &Columns, row: usize, place: usize) -> Option<i128>
-    requires row { row < length columns.now.rows }
-    requires place { place < length columns.now.kinds }
-    ensures { result ≡ cell decimal_in (slice_index_or columns.now.rows row []) place }
-{
-    match columns.value(row, place) {
-        Value::Decimal(number) => Some(number),
-        _ => None,
-    }
+    number_in(kind, &columns.value(row, place))
 }

@@ -1,15 +1,12 @@
 -- The numbers of a column, and comparisons between numbers, on the rows that are wanted.
-use Rattle.std.proofs.Common.{◌≡◌, ◌<◌, ◌/◌, ◌%◌, ℕ, Bool, true, false, Option, None, Some, List, length, get_or, slice_get, refl, sym, ap, ◌∙◌, arith}
-use Rattle.std.specs.Prelude.{ℤ, pos, negsuc, option_and_then}
-use Rattle.std.specs.Int.{int_div_euclid}
-use Rattle.std.proofs.lemmas.Int.{ints}
+use Rattle.std.proofs.Common.{◌≡◌, ◌<◌, ℕ, Bool, true, false, Option, Some, List, length, get_or, slice_get, refl, sym, ap, ◌∙◌}
+use Rattle.std.specs.Prelude.{ℤ, pos, option_and_then}
 use Rattle.std.proofs.lemmas.Option.{slice_get-get_or}
 use Rattle.cell_types.specs.Value.{CellValue}
-use Rattle.block_summary.specs.declared.number.PackedType.TheVariants.{Boolean}
-use Rattle.block_summary.specs.Types.{cell_of, day_number, place_in_year}
-use Rattle.typed_trees.specs.declared.operator.ComparisonOperator.{ComparisonOperator}
-use Rattle.typed_trees.specs.declared.tree.NumberKind.{NumberKind}
-use Rattle.typed_trees.specs.declared.tree.NumberKind.TheVariants as kinds
+use Rattle.cell_types.specs.declared.kind.NumberKind.TheVariants.{Boolean}
+use Rattle.cell_types.specs.Kind.{cell_of}
+use Rattle.cell_types.specs.declared.comparison.ComparisonOperator.{ComparisonOperator}
+use Rattle.cell_types.specs.declared.kind.NumberKind.{NumberKind}
 use Rattle.row_eval.specs.declared.truth.Truth.{Truth}
 use Rattle.row_eval.specs.Logic.{truth_of_option}
 use Rattle.row_eval.specs.Outcome.{both}
@@ -17,7 +14,7 @@ use Rattle.row_eval.specs.Row.{boolean_in, cell, number_in}
 use Rattle.block_eval.specs.declared.columns.BlockColumn.{BlockColumn}
 use Rattle.number_kernels.specs.declared.numbers.Numbers as vector
 use Rattle.number_kernels.specs.declared.numbers.Numbers.TheVariants.{Computed}
-use Rattle.block_eval.specs.Columns.{number_at, type_of_kind, unless_null}
+use Rattle.block_eval.specs.Columns.{unless_null}
 use Rattle.block_eval.specs.Lanes.{comparison, number_lane, truth_in, GivesNumbers, GivesTruths, HasTruths}
 use Rattle.block_eval.specs.declared.packed.Unpacked.{Unpacked}
 use Rattle.block_eval.specs.Bounded.{GivesBounded}
@@ -28,32 +25,18 @@ use Rattle.block_eval.proofs.LogicLemmas.{all-gives, wanted_within}
 pub found-column : (columns : List BlockColumn) (place : ℕ) (found column : BlockColumn) → place < length columns → found ≡ get_or columns place found → found ≡ column → slice_get columns place ≡ Some column
 found-column columns place found column within e is = slice_get-get_or columns place found within ∙ ap (λ c. Some c) (sym e ∙ is)
 
--- a day by its number is the day of that number again
-day-back : (n : ℤ) → day_number (int_div_euclid n (pos 512)) (place_in_year n / 32) (place_in_year n % 32) ≡ n
-day-back (pos n) = omega (arith, ints)
-day-back (negsuc n) = omega (arith, ints)
-
--- the number of a kind in the cell that a number of its type stands for
-pub kind-cell : (k : NumberKind) (n : Option ℤ) → number_in k (cell_of (type_of_kind k) n) ≡ n
-kind-cell kinds.Integer None = refl
-kind-cell kinds.Decimal None = refl
-kind-cell kinds.Date None = refl
-kind-cell kinds.Integer (Some n) = refl
-kind-cell kinds.Decimal (Some n) = refl
-kind-cell kinds.Date (Some n) = ap (λ z. Some z) (day-back n)
-
 truth-cell : (null : Bool) (n : ℤ) → truth_of_option (boolean_in (cell_of Boolean (unless_null null n))) ≡ truth_in null n
 truth-cell true n = refl
 truth-cell false n = refl
 
 -- the numbers of a column of a kind
-pub numbers-give : (columns : List BlockColumn) (k : NumberKind) (place : ℕ) (wanted : List Bool) (made : Unpacked) → IsUnpackedAt columns place (type_of_kind k) (length wanted) made
+pub numbers-give : (columns : List BlockColumn) (k : NumberKind) (place : ℕ) (wanted : List Bool) (made : Unpacked) → IsUnpackedAt columns place k (length wanted) made
     → GivesBounded (λ cells. Some (cell (number_in k) cells place)) columns wanted (record { numbers = Computed made.values made.nulls; bounds = made.bounds })
 numbers-give columns k place wanted made is = record {
   numbers = record {
     each = λ row cells h at.
         ap (λ v. Some (option_and_then (number_in k) v)) (is.stand row cells (wanted_within wanted row h) at)
-        ∙ ap (λ n. Some n) (kind-cell k (number_at made.values.items made.nulls.items row));
+        ∙ ap (λ n. Some n) (is.back row (wanted_within wanted row h));
     long = (is.values_long, is.nulls_long);
   };
   within = λ row cells h at. is.within row (wanted_within wanted row h);

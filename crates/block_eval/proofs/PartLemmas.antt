@@ -2,8 +2,8 @@
 use Rattle.std.proofs.Common.{◌≡◌, ◌<◌, ℕ, Bool, true, false, None, Some, List, length, get_or, refl, sym, ap, ◌∙◌, arith}
 use Rattle.std.specs.Prelude.{ℤ, pos, Vec, option_and_then, option_map}
 use Rattle.std.specs.Global.{Global}
-use Rattle.block_summary.specs.declared.number.PackedType.TheVariants.{Date}
-use Rattle.block_summary.specs.Types.{cell_of}
+use Rattle.cell_types.specs.declared.kind.NumberKind.TheVariants.{Date}
+use Rattle.cell_types.specs.Kind.{cell_of}
 use Rattle.typed_trees.specs.declared.tree.DatePart.{DatePart}
 use Rattle.typed_trees.specs.declared.tree.DatePart.TheVariants.{Year, Month, Day}
 use Rattle.row_eval.specs.Outcome.{part_in}

@@ -1,6 +1,6 @@
 -- Comparisons with a constant as comparisons of packed numbers with a span.
 use Rattle.std.proofs.Common.{◌≡◌, ℕ, Bool, true, false, List, Option, None, Some, length, get_or, refl, sym, subst, ap, ◌∙◌, arith, not}
-use Rattle.std.specs.Prelude.{ℤ, pos, negsuc, ◌+ℤ◌, ◌*ℤ◌, ◌<ℤ◌, ◌≤ℤ◌, option_map}
+use Rattle.std.specs.Prelude.{ℤ, pos, negsuc, ◌+ℤ◌, ◌*ℤ◌, ◌<ℤ◌, ◌≤ℤ◌, option_and_then, option_map}
 use Rattle.std.specs.Int.{int_div_euclid}
 use Rattle.std.specs.Ordering.{int_cmp, is_gt, is_lt, MatchOrdering}
 use Rattle.std.specs.declared.cmp.Ordering.{Ordering}
@@ -9,10 +9,12 @@ use Rattle.std.proofs.lemmas.Cmp.{int_ranked}
 use Rattle.std.proofs.lemmas.Int.{ints}
 use Rattle.std.proofs.lemmas.List.{length-map}
 use Rattle.cell_types.specs.Value.{CellValue}
-use Rattle.block_summary.specs.Types.{number_of, numbers_of}
+use Rattle.cell_types.specs.Kind.{number_in, number_of}
+use Rattle.cell_types.specs.declared.kind.NumberKind.{NumberKind}
+use Rattle.block_summary.specs.Types.{cells_of_kind, numbers_of}
 use Rattle.block_summary.specs.declared.bounds.Bounds.{Bounds}
-use Rattle.typed_trees.specs.declared.operator.ComparisonOperator.{ComparisonOperator}
-use Rattle.typed_trees.specs.declared.operator.ComparisonOperator.TheVariants as operators
+use Rattle.cell_types.specs.declared.comparison.ComparisonOperator.{ComparisonOperator}
+use Rattle.cell_types.specs.declared.comparison.ComparisonOperator.TheVariants as operators
 use Rattle.typed_trees.specs.declared.tree.DatePart.TheVariants.{Year}
 use Rattle.typed_trees.specs.TypedTree as typed
 use Rattle.typed_trees.specs.TypedTree.{NumberExprOf}
@@ -22,9 +24,12 @@ use Rattle.row_eval.specs.Logic.{least, opposite, truth_of}
 use Rattle.row_eval.specs.Outcome.{both, number_outcome}
 use Rattle.block_eval.specs.declared.columns.BlockColumn.{BlockColumn}
 use Rattle.block_eval.specs.Lanes.{comparison, AreOutcomes, HasTruths}
+use Rattle.block_eval.specs.Packed.{HasNumbersAt}
 use Rattle.block_eval.specs.Parts.{day_part}
 use Rattle.block_eval.specs.Spans.{in_span, span_comparison, ComparesSpan, IsSpanOf}
+use Rattle.zone_maps.specs.Known.{IsConstantNumber}
 use Rattle.block_eval.proofs.LogicLemmas.{all-gives}
+use Rattle.block_eval.proofs.PackedLemmas.{number-back}
 
 -- ---- spans
 
@@ -151,3 +156,24 @@ spans-give o a b columns column span wanted ts is size has =
     ap (λ x. both (comparison o) x (number_outcome b cells)) (is.left_is row cells at)
     ∙ ap (both (comparison o) (Some (option_map is.f (n row)))) (is.right_is cells)
     ∙ ap (λ t. Some t) (sym (span-says is.f is.constant span is.span_is o (n row))))
+
+-- ---- a column and the span of a number
+
+same-number : (n : Option ℤ) → n ≡ option_map (λ z. z) n
+same-number None = refl
+same-number (Some z) = refl
+
+pub column-spans : (columns : List BlockColumn) (kind : NumberKind) (place : ℕ) (column : List CellValue) (left right : NumberExprOf) (number : ℤ) (span : Bounds) → left ≡ typed.number_column kind place
+    → HasNumbersAt columns place kind (numbers_of column) → cells_of_kind kind (numbers_of column) ≡ column → IsConstantNumber right (Some number) → IsSpanOf (λ z. z) number span
+    → ComparesSpan left right columns column span
+column-spans columns kind place column left right number span e has are constant is = record {
+  f = λ z. z;
+  constant = number;
+  left_is = λ row cells at.
+      let n = get_or (numbers_of column) row None in
+      ap (λ l. number_outcome l cells) e
+      ∙ ap (λ v. Some (option_and_then (number_in kind) v)) (has row cells at)
+      ∙ ap (λ m. Some m) (number-back kind column row n are refl ∙ same-number n);
+  right_is = constant;
+  span_is = is;
+}

@@ -4,7 +4,7 @@ use Rattle.std.specs.Prelude.{ℤ, option_map}
 use Rattle.std.specs.Ordering.{bool_cmp, int_cmp}
 use Rattle.block_summary.specs.Ranges.{RangeOf}
 use Rattle.cell_types.specs.Value.{CellValue}
-use Rattle.typed_trees.specs.declared.operator.ComparisonOperator.{ComparisonOperator}
+use Rattle.cell_types.specs.declared.comparison.ComparisonOperator.{ComparisonOperator}
 use Rattle.row_eval.specs.declared.truth.Truth.{Truth}
 use Rattle.row_eval.specs.Comparison.{holds, is_among}
 use Rattle.row_eval.specs.Logic.{option_of_truth, truth_of}
@@ -13,7 +13,8 @@ use Rattle.block_eval.specs.declared.columns.BlockColumn.{BlockColumn}
 use Rattle.number_kernels.specs.declared.numbers.Numbers.{Numbers}
 use Rattle.block_eval.specs.Items.{AreFoundAmong}
 use Rattle.block_eval.specs.Lanes.{comparison, number_lane, truth_lane, GivesTruthsWithin, HasTruths}
-use Rattle.block_eval.specs.Truths.{number_of_truth, truth_comparison, AreTruthNumbers}
+use Rattle.cell_types.specs.Kind.{number_of_truth}
+use Rattle.block_eval.specs.Truths.{truth_comparison, AreTruthNumbers}
 use Rattle.block_eval.proofs.ListLemmas.{among-map, compared-map}
 use Rattle.block_eval.proofs.LogicLemmas.{wanted_within}
 

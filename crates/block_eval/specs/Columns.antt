@@ -2,18 +2,8 @@
 pub use Rattle.number_kernels.specs.Lanes.{number_at, unless_null}
 use Rattle.std.specs.Prelude.{◌≡◌, ℕ, Some, List, slice_get, slice_index_or}
 use Rattle.cell_types.specs.Value.{CellValue, null}
-use Rattle.block_summary.specs.declared.number.PackedType.{PackedType}
-use Rattle.block_summary.specs.declared.number.PackedType.TheVariants.{Date, Decimal, Integer}
-use Rattle.typed_trees.specs.declared.tree.NumberKind.{NumberKind}
-use Rattle.typed_trees.specs.declared.tree.NumberKind.TheVariants as kinds
 use Rattle.block_eval.specs.declared.columns.BlockColumn.{BlockColumn}
 use Rattle.block_eval.specs.declared.columns.BlockColumn.TheVariants.{Packed, Texts}
-
--- the type of the packed numbers of a kind
-abbrev pub type_of_kind : NumberKind → PackedType
-type_of_kind kinds.Integer = Integer
-type_of_kind kinds.Decimal = Decimal
-type_of_kind kinds.Date = Date
 
 -- the cell of a row
 abbrev pub cell_in_column : BlockColumn → ℕ → CellValue

@@ -1,7 +1,7 @@
 -- The year, the month and the day of the day that a number stands for.
 use Rattle.std.specs.Prelude.{ℤ, pos, ◌/◌, ◌%◌}
 use Rattle.std.specs.Int.{int_div_euclid}
-use Rattle.block_summary.specs.Types.{place_in_year}
+use Rattle.cell_types.specs.Kind.{place_in_year}
 use Rattle.typed_trees.specs.declared.tree.DatePart.{DatePart}
 use Rattle.typed_trees.specs.declared.tree.DatePart.TheVariants.{Year, Month, Day}
 

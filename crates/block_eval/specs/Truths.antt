@@ -1,16 +1,13 @@
 -- Truths of a block by their numbers: false is 0, and true 1.
-use Rattle.std.specs.Prelude.{◌≡◌, ◌<◌, ℕ, ℤ, pos, Bool, true, false, List, length, option_map}
+use Rattle.std.specs.Prelude.{◌≡◌, ◌<◌, ℕ, List, length, option_map}
 use Rattle.row_eval.specs.declared.truth.Truth.{Truth}
 use Rattle.std.specs.Ordering.{bool_cmp}
-use Rattle.typed_trees.specs.declared.operator.ComparisonOperator.{ComparisonOperator}
+use Rattle.cell_types.specs.Kind.{number_of_truth}
+use Rattle.cell_types.specs.declared.comparison.ComparisonOperator.{ComparisonOperator}
 use Rattle.row_eval.specs.Comparison.{compared, holds}
 use Rattle.row_eval.specs.Logic.{option_of_truth, truth_of}
 use Rattle.number_kernels.specs.declared.numbers.Numbers.{Numbers}
 use Rattle.block_eval.specs.Lanes.{number_lane, truth_lane, AreLong}
-
-abbrev pub number_of_truth : Bool → ℤ
-number_of_truth true = pos 1
-number_of_truth false = pos 0
 
 -- what a comparison says of two truths
 abbrev pub truth_comparison : ComparisonOperator → Truth → Truth → Truth

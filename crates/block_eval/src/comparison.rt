@@ -7,10 +7,11 @@ ghost use Rattle.block_eval.specs.Lanes.{AreOutcomesOf};
 use crate::columns::WantedRows;
 use crate::numbers::eval_numbers;
 use crate::spans::{column_and_span, compare_span};
+use cell_types::ComparisonOperator;
 use number_kernels::{Fallback, compare};
 use row_eval::Truth;
 use std::alloc::Global;
-use typed_trees::{ComparisonOperator, NumberExpr};
+use typed_trees::NumberExpr;
 
 /// Returns whether a comparison holds between numbers, on the wanted rows of a block.
 pub fn compare_numbers(

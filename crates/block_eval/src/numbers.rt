@@ -10,11 +10,12 @@ ghost use Rattle.block_eval.specs.Lanes.{AreNumbers};
 use crate::bounded::{Bounded, constant, join_bounded, nulls, same};
 use crate::columns::BlockColumn;
 use crate::measures::{lengths_in, places_in};
-use crate::packed::{Unpacked, type_of_kind, unpacked_at};
+use crate::packed::{Unpacked, unpacked_at};
 use crate::parts::parts_in;
+use cell_types::NumberKind;
 use number_kernels::{Fallback, Numbers};
 use std::alloc::Global;
-use typed_trees::{ArithmeticOperator, MILLIONTHS, NumberExpr, NumberKind};
+use typed_trees::{ArithmeticOperator, MILLIONTHS, NumberExpr};
 
 /// Returns the numbers of a column of a kind.
 fn numbers_at<'a>(
@@ -27,12 +28,11 @@ fn numbers_at<'a>(
     ensures { IfOk result
         (GivesBounded (λ cells. Some (cell (number_in kind) cells place)) columns.now wanted.now) }
 {
-    let packed_type = type_of_kind(kind);
     let Unpacked {
         values,
         nulls,
         bounds,
-    } = unpacked_at(alloc, columns, place, packed_type, wanted.len())?;
+    } = unpacked_at(alloc, columns, place, kind, wanted.len())?;
     Ok(Bounded {
         numbers: Numbers::Computed(values, nulls),
         bounds,

@@ -1,60 +1,35 @@
 //! The numbers of a column as a block retains them: unpacked, or compared with a literal where they are.
 
-ghost use Rattle.std.specs.Prelude.{◌≡◌, ◌<◌, ℕ, false, IfOk, IfSome, IsTrue, length, slice_index_or};
-ghost use Rattle.block_summary.specs.Types.{cells_of_type, numbers_of};
+ghost use Rattle.std.specs.Prelude.{◌≡◌, ◌<◌, ℕ, false, IfOk, IfSome, length, slice_index_or};
+ghost use Rattle.block_summary.specs.Types.{cells_of_kind, numbers_of};
 ghost use Rattle.row_eval.specs.Logic.{truth_of};
-ghost use Rattle.block_eval.specs.Columns.{type_of_kind as type_of_number_kind};
 ghost use Rattle.block_eval.specs.Lanes.{truth_lane};
 ghost use Rattle.block_eval.specs.Packed.{AreNumbersCompared, HasNumbersAt, IsUnpackedAt};
 
 use crate::columns::BlockColumn;
-use block_summary::{Bounds, PackedColumn, PackedType};
+use block_summary::{Bounds, PackedColumn};
+use cell_types::{ComparisonOperator, NumberKind};
 use number_kernels::Fallback;
 use row_eval::{Truth, truth_of};
 use std::alloc::Global;
-use typed_trees::{ComparisonOperator, NumberKind};
-use zone_maps::comparison_of;
 
-/// Returns the type of the packed numbers of a kind.
-pub fn type_of_kind(kind: NumberKind) -> PackedType
-    ensures { result ≡ type_of_number_kind kind }
-{
-    match kind {
-        NumberKind::Integer => PackedType::Integer,
-        NumberKind::Decimal => PackedType::Decimal,
-        NumberKind::Date => PackedType::Date,
-    }
-}
-
-/// Returns true if a type is the one that is asked for.
-fn are_same(given: PackedType, asked: PackedType) -> bool
-    ensures { IsTrue result → given ≡ asked }
-{
-    match asked {
-        PackedType::Integer => matches!(given, PackedType::Integer),
-        PackedType::Decimal => matches!(given, PackedType::Decimal),
-        PackedType::Date => matches!(given, PackedType::Date),
-        PackedType::Boolean => matches!(given, PackedType::Boolean),
-    }
-}
-
-/// Returns the column at a place if it is packed, has numbers of this type and `rows` rows.
+/// Returns the column at a place if it is packed, has numbers of this kind and `rows` rows.
 pub fn packed_in<'a>(
     columns: &[BlockColumn<'a>],
     place: usize,
-    packed_type: PackedType,
+    kind: NumberKind,
     rows: usize,
 ) -> Option<&'a PackedColumn>
     ensures numbers { IfSome result (λ column.
-        HasNumbersAt columns.now place packed_type (numbers_of column.now)) }
+        HasNumbersAt columns.now place kind (numbers_of column.now)) }
     ensures typed { IfSome result (λ column.
-        cells_of_type packed_type (numbers_of column.now) ≡ column.now) }
+        cells_of_kind kind (numbers_of column.now) ≡ column.now) }
     ensures long { IfSome result (λ column. length column.now ≡ rows) }
 {
     let Some(BlockColumn::Packed(column)) = columns.get(place) else {
         return None;
     };
-    if column.len() != rows || !are_same(column.packed_type(), packed_type) {
+    if column.len() != rows || column.kind() != kind {
         return None;
     }
     Some(column)
@@ -68,17 +43,17 @@ pub struct Unpacked {
     pub bounds: Option<Bounds>,
 }
 
-/// Returns the numbers of the column at a place, if it has numbers of this type and `rows` rows.
+/// Returns the numbers of the column at a place, if it has numbers of this kind and `rows` rows.
 pub fn unpacked_at(
     alloc: Global,
     columns: &[BlockColumn<'_>],
     place: usize,
-    packed_type: PackedType,
+    kind: NumberKind,
     rows: usize,
 ) -> Result<Unpacked, Fallback>
-    ensures { IfOk result (IsUnpackedAt columns.now place packed_type rows) }
+    ensures { IfOk result (IsUnpackedAt columns.now place kind rows) }
 {
-    let Some(column) = packed_in(columns, place, packed_type, rows) else {
+    let Some(column) = packed_in(columns, place, kind, rows) else {
         return Err(Fallback::Rows);
     };
     let mut values = Vec::from_elem(alloc, 0i64, rows)?;
@@ -114,7 +89,7 @@ pub fn compare_packed(
         (λ truths. AreNumbersCompared operator (numbers_of column.now) number truths.items) }
 {
     let mut marks = Vec::from_elem(alloc, false, column.len())?;
-    column.mark_passing(comparison_of(operator), number, marks.as_mut_slice());
+    column.mark_passing(operator, number, marks.as_mut_slice());
     let mut truths = Vec::from_elem(alloc, Truth::False, column.len())?;
     truth_each(marks.as_slice(), truths.as_mut_slice());
     Ok(truths)

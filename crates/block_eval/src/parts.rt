@@ -10,7 +10,7 @@ ghost use Rattle.block_eval.specs.Parts.{day_part};
 use crate::bounded::Bounded;
 use crate::columns::BlockColumn;
 use crate::packed::{Unpacked, unpacked_at};
-use block_summary::PackedType;
+use cell_types::NumberKind;
 use number_kernels::{Fallback, Numbers};
 use std::alloc::Global;
 use typed_trees::{DateExpr, DatePart};
@@ -54,7 +54,7 @@ fn parts_at<'a>(
         mut values,
         nulls,
         ..
-    } = unpacked_at(alloc, columns, place, PackedType::Date, wanted.len())?;
+    } = unpacked_at(alloc, columns, place, NumberKind::Date, wanted.len())?;
     part_each(part, values.as_mut_slice());
     Ok(Bounded {
         numbers: Numbers::Computed(values, nulls),

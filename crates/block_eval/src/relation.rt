@@ -6,11 +6,12 @@ ghost use Rattle.block_eval.specs.Lanes.{AreOutcomesOf};
 
 use crate::columns::WantedRows;
 use crate::texts::eval_texts;
+use cell_types::ComparisonOperator;
 use number_kernels::Fallback;
 use row_eval::Truth;
 use std::alloc::Global;
 use text_kernels::{TextRelation, relate};
-use typed_trees::{ComparisonOperator, TextExpr, TextTest};
+use typed_trees::{TextExpr, TextTest};
 
 /// Returns whether a comparison holds between texts, on the wanted rows of a block.
 pub fn compare_texts(

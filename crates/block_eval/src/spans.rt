@@ -9,12 +9,13 @@ ghost use Rattle.block_eval.specs.Parts.{day_part};
 ghost use Rattle.block_eval.specs.Spans.{in_span, span_comparison, ComparesSpan, IsSpanOf};
 
 use crate::columns::BlockColumn;
-use crate::packed::{compare_packed, packed_in, type_of_kind};
-use block_summary::{Bounds, PackedColumn, PackedType};
+use crate::packed::{compare_packed, packed_in};
+use block_summary::{Bounds, PackedColumn};
+use cell_types::{ComparisonOperator, NumberKind};
 use number_kernels::{Fallback, conjunction, negation};
 use row_eval::Truth;
 use std::alloc::Global;
-use typed_trees::{ComparisonOperator, DateExpr, DatePart, NumberExpr};
+use typed_trees::{DateExpr, DatePart, NumberExpr};
 use zone_maps::constant_number;
 
 /// Returns the span of one number, if it has 64 bits.
@@ -57,12 +58,12 @@ pub fn column_and_span<'a>(
     let number = constant_number(right)??;
     match left {
         NumberExpr::Column(kind, place) => {
-            let column = packed_in(columns, *place, type_of_kind(*kind), rows)?;
+            let column = packed_in(columns, *place, *kind, rows)?;
             let span = span_of_number(number)?;
             Some((column, span))
         }
         NumberExpr::PartOf(DatePart::Year, DateExpr::Column(place)) => {
-            let column = packed_in(columns, *place, PackedType::Date, rows)?;
+            let column = packed_in(columns, *place, NumberKind::Date, rows)?;
             let span = span_of_year(number)?;
             Some((column, span))
         }

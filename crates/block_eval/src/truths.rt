@@ -7,17 +7,17 @@ ghost use Rattle.row_eval.specs.Logic.{option_of_truth, truth_of, truth_of_optio
 ghost use Rattle.row_eval.specs.Row.{boolean_in, cell};
 ghost use Rattle.block_eval.specs.Columns.{number_at};
 ghost use Rattle.block_eval.specs.Lanes.{truth_lane, GivesTruths, HasTruths};
-ghost use Rattle.block_eval.specs.Truths.{number_of_truth, truth_comparison, AreTruthNumbers};
+ghost use Rattle.cell_types.specs.Kind.{number_of_truth};
+ghost use Rattle.block_eval.specs.Truths.{truth_comparison, AreTruthNumbers};
 
 use crate::bounded::Bounded;
 use crate::columns::BlockColumn;
 use crate::items::among;
 use crate::packed::{Unpacked, unpacked_at};
-use block_summary::PackedType;
+use cell_types::{ComparisonOperator, NumberKind};
 use number_kernels::{Fallback, Numbers, compare, truths_of};
 use row_eval::Truth;
 use std::alloc::{AllocError, Global};
-use typed_trees::ComparisonOperator;
 
 /// Returns the number of a boolean.
 #[inline(always)]
@@ -125,7 +125,7 @@ pub fn truths_in(
         alloc,
         columns,
         place,
-        PackedType::Boolean,
+        NumberKind::Boolean,
         wanted.len(),
     )?;
     let truths = truths_of(alloc, values.as_slice(), nulls.as_slice())?;

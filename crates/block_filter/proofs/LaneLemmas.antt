@@ -1,6 +1,6 @@
 -- The columns of a block.
 use Rattle.std.proofs.Common.{◌≡◌, inl, inr, ℕ, zero, suc, ◌+◌, ◌<◌, ◌≤◌, Bool, true, false, Option, Some, None, List, [], ◌∷◌, ◌++◌, length, get_or, refl, sym, ap, ◌∙◌, subst, arith}
-use Rattle.std.specs.Prelude.{option_and_then, option_map, if◌then◌else◌, slice_get}
+use Rattle.std.specs.Prelude.{option_and_then, if◌then◌else◌, slice_get}
 use Rattle.std.proofs.lemmas.Bool.{cases_eq, cases_lt}
 use Rattle.std.proofs.lemmas.List.{get_or_past, get_or_push, get_or_append_left, get_or-map, length_push}
 use Rattle.std.proofs.lemmas.Option.{slice_get-get_or}
@@ -8,13 +8,14 @@ use Rattle.block_eval.specs.declared.columns.BlockColumn.{BlockColumn}
 use Rattle.block_eval.specs.declared.columns.BlockColumn.TheVariants.{Packed}
 use Rattle.block_eval.specs.Columns.{cell_in_column}
 use denote.Ref.{Bor}
-use Rattle.block_summary.specs.declared.number.PackedType.{PackedType}
+use Rattle.cell_types.specs.declared.kind.ColumnKind.TheVariants.{Text, Number}
+use Rattle.cell_types.specs.declared.kind.ColumnKind.{ColumnKind}
 use Rattle.block_summary.specs.Ranges.{column_of}
-use Rattle.block_summary.specs.Reading.{packed_type_of}
+use Rattle.cell_types.specs.Kind.{kind_of}
 use Rattle.cell_types.specs.Column.{ColumnOf}
 use Rattle.cell_types.specs.Datatype.{is_text}
 use Rattle.cell_types.specs.Value.{CellValue, null}
-use Rattle.table_store.specs.Block.{packed_cells, text_cells}
+use Rattle.table_store.specs.Block.{cells_of_numbers, packed_cells, text_cells}
 use Rattle.table_store.specs.Fits.{HasTableRows, IsTableRow}
 use Rattle.table_store.specs.Table.{TableOf}
 use Rattle.block_filter.specs.Lanes.{AreColumnsOf, AreTextsOf, AreValuesOf, IsColumnOf}
@@ -93,14 +94,14 @@ pub packed_stand : (block : TableOf) (col : ℕ) (packed : Option (List CellValu
 packed_stand block col None fit h are = tt
 packed_stand block col (Some values) fit h are = values_stand block col values fit h (by (slice_get block.schema.columns col) are)
   where
-    by : (o : Option ColumnOf) → Some values ≡ option_and_then (λ (column : ColumnOf). option_map (λ type. column_of block.rows col) (packed_type_of column.datatype)) o
+    by : (o : Option ColumnOf) → Some values ≡ option_and_then (λ (column : ColumnOf). cells_of_numbers (kind_of column.datatype) (column_of block.rows col)) o
         → values ≡ column_of block.rows col
     by None e = absurd (cc)
-    by (Some column) e = of_type (packed_type_of column.datatype) e
+    by (Some column) e = of_kind (kind_of column.datatype) e
       where
-        of_type : (t : Option PackedType) → Some values ≡ option_map (λ type. column_of block.rows col) t → values ≡ column_of block.rows col
-        of_type None e = absurd (cc)
-        of_type (Some type) e = cc
+        of_kind : (kind : ColumnKind) → Some values ≡ cells_of_numbers kind (column_of block.rows col) → values ≡ column_of block.rows col
+        of_kind Text e = absurd (cc)
+        of_kind (Number kind) e = cc
 
 -- the columns of texts so far
 pub record AreTextsTo (rows : List (List CellValue)) (texts : List (Option (List CellValue))) (i : ℕ) : Type 0 where

@@ -9,8 +9,8 @@ use Rattle.block_summary.specs.Cells.{cells_of, number_or_null, sums, AreBelow}
 use Rattle.frame_of_reference.specs.Marks.{is_offset_between, AreMarkedBetween}
 use Rattle.block_summary.specs.Passing.{is_turned, lies_between, number_passes, unturned, SpansPassing}
 use Rattle.block_summary.specs.declared.bounds.Bounds.{Bounds}
-use Rattle.block_summary.specs.declared.test.Comparison.{Comparison}
-use Rattle.block_summary.specs.declared.test.Comparison.TheVariants as op
+use Rattle.cell_types.specs.declared.comparison.ComparisonOperator.{ComparisonOperator}
+use Rattle.cell_types.specs.declared.comparison.ComparisonOperator.TheVariants as op
 use Rattle.block_summary.proofs.CellLemmas.{cells_of-at, length-cells, length-sums, number_at, sums-at}
 use Rattle.block_summary.proofs.SpanLemmas.{mark-cell, no-cell}
 
@@ -71,7 +71,7 @@ all-fit nulls least offsets cells view fits below = λ i z e.
     let is : z ≡ least +ℤ pos (get_or offsets i 0) = sym at.2 ∙ sums-at least offsets i row in
     above-low least z fits (omega (arith, ints, is)) (omega (arith, ints, is, below i row))
 
-spanned : (o : Comparison) (l : ℤ) (b : Bounds) (n : Option ℤ) → SpansPassing o l b → ((z : ℤ) → n ≡ Some z → FitsSigned w64 z) → lies_between b n ≡ number_passes (unturned o) l n
+spanned : (o : ComparisonOperator) (l : ℤ) (b : Bounds) (n : Option ℤ) → SpansPassing o l b → ((z : ℤ) → n ≡ Some z → FitsSigned w64 z) → lies_between b n ≡ number_passes (unturned o) l n
 spanned op.Equal l b None spans fits = refl
 spanned op.NotEqual l b None spans fits = refl
 spanned op.GreaterThan l b None spans fits = refl
@@ -80,7 +80,7 @@ spanned op.LessThan l b None spans fits = refl
 spanned op.LessOrEqual l b None spans fits = refl
 spanned o l b (Some z) spans fits = spans z (fits z refl)
 
-turned : (o : Comparison) (l : ℤ) (n : Option ℤ) → is_turned o ≡ true → not (number_passes (unturned o) l n) ≡ number_passes o l n
+turned : (o : ComparisonOperator) (l : ℤ) (n : Option ℤ) → is_turned o ≡ true → not (number_passes (unturned o) l n) ≡ number_passes o l n
 turned op.NotEqual l n e = refl
 turned op.Equal l n e = absurd (false≢true e)
 turned op.GreaterThan l n e = absurd (false≢true e)
@@ -88,7 +88,7 @@ turned op.GreaterOrEqual l n e = absurd (false≢true e)
 turned op.LessThan l n e = absurd (false≢true e)
 turned op.LessOrEqual l n e = absurd (false≢true e)
 
-as-it-is : (o : Comparison) (l : ℤ) (n : Option ℤ) → is_turned o ≡ false → number_passes (unturned o) l n ≡ number_passes o l n
+as-it-is : (o : ComparisonOperator) (l : ℤ) (n : Option ℤ) → is_turned o ≡ false → number_passes (unturned o) l n ≡ number_passes o l n
 as-it-is op.NotEqual l n e = absurd (true≢false e)
 as-it-is op.Equal l n e = refl
 as-it-is op.GreaterThan l n e = refl
@@ -96,13 +96,13 @@ as-it-is op.GreaterOrEqual l n e = refl
 as-it-is op.LessThan l n e = refl
 as-it-is op.LessOrEqual l n e = refl
 
-pub plain-marks : (o : Comparison) (l : ℤ) (b : Bounds) (cells : List (Option ℤ)) (marks : List Bool) → SpansPassing o l b → ((i : ℕ) (z : ℤ) → get_or cells i None ≡ Some z → FitsSigned w64 z)
+pub plain-marks : (o : ComparisonOperator) (l : ℤ) (b : Bounds) (cells : List (Option ℤ)) (marks : List Bool) → SpansPassing o l b → ((i : ℕ) (z : ℤ) → get_or cells i None ≡ Some z → FitsSigned w64 z)
     → length marks ≡ length cells → is_turned o ≡ false → ((i : ℕ) → i < length marks → get_or marks i false ≡ lies_between b (get_or cells i None)) → marks ≡ map (number_passes o l) cells
 plain-marks o l b cells marks spans fits size plain each = ext_get_or false marks (map (number_passes o l) cells) (size ∙ sym (length-map cells (number_passes o l)))
     (λ i h. let inside : i < length cells = omega (arith, h, size) in
     each i h ∙ spanned o l b (get_or cells i None) spans (fits i) ∙ as-it-is o l (get_or cells i None) plain ∙ sym (get_or-map (number_passes o l) cells i None false inside))
 
-pub turned-marks : (o : Comparison) (l : ℤ) (b : Bounds) (cells : List (Option ℤ)) (marks out : List Bool) → SpansPassing o l b → ((i : ℕ) (z : ℤ) → get_or cells i None ≡ Some z → FitsSigned w64 z)
+pub turned-marks : (o : ComparisonOperator) (l : ℤ) (b : Bounds) (cells : List (Option ℤ)) (marks out : List Bool) → SpansPassing o l b → ((i : ℕ) (z : ℤ) → get_or cells i None ≡ Some z → FitsSigned w64 z)
     → length marks ≡ length cells → length out ≡ length marks → is_turned o ≡ true → ((i : ℕ) → i < length marks → get_or marks i false ≡ lies_between b (get_or cells i None))
     → ((i : ℕ) → i < length out → get_or out i false ≡ not (get_or marks i false)) → out ≡ map (number_passes o l) cells
 turned-marks o l b cells marks out spans fits size long turn each turns = ext_get_or false out (map (number_passes o l) cells) (long ∙ size ∙ sym (length-map cells (number_passes o l)))

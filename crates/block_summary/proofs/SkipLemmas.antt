@@ -12,8 +12,8 @@ use Rattle.std.proofs.lemmas.List.Sums.{sum_by-cons}
 use Rattle.std.specs.BTreeMap.Comparable.{le_lt_trans}
 use Rattle.cell_types.specs.Laws.{ValuesAreOrdered}
 use Rattle.cell_types.specs.Value.{CellValue, null, value_cmp}
-use Rattle.block_summary.specs.declared.test.Comparison.{Comparison}
-use Rattle.block_summary.specs.declared.test.Comparison.TheVariants as op
+use Rattle.cell_types.specs.declared.comparison.ComparisonOperator.{ComparisonOperator}
+use Rattle.cell_types.specs.declared.comparison.ComparisonOperator.TheVariants as op
 use Rattle.block_summary.specs.Laws.{SkipsNoRow}
 use Rattle.std.proofs.lemmas.List.{get_or-map, length-map}
 use Rattle.block_summary.specs.Ranges.{RangeOf, column_of, no_range, is_null, AreAllNull, IsAtMost, IsGreatest, IsLeast, IsRangeOf}
@@ -31,7 +31,7 @@ High Less y = Unit {0}
 High Equal y = IsTrue (is_ge y)
 High Greater y = y ≡ Greater
 
-abbrev passes_by : Comparison → Ordering → Bool
+abbrev passes_by : ComparisonOperator → Ordering → Bool
 passes_by op.Equal w = is_eq w
 passes_by op.NotEqual w = not (is_eq w)
 passes_by op.GreaterThan w = is_gt w
@@ -39,7 +39,7 @@ passes_by op.GreaterOrEqual w = is_gt w || is_eq w
 passes_by op.LessThan w = is_lt w
 passes_by op.LessOrEqual w = is_lt w || is_eq w
 
-abbrev admits_by : Comparison → Ordering → Ordering → Bool
+abbrev admits_by : ComparisonOperator → Ordering → Ordering → Bool
 admits_by op.Equal x y = is_le x && is_ge y
 admits_by op.NotEqual x y = is_ne x || is_ne y
 admits_by op.GreaterThan x y = is_gt y
@@ -47,7 +47,7 @@ admits_by op.GreaterOrEqual x y = is_ge y
 admits_by op.LessThan x y = is_lt x
 admits_by op.LessOrEqual x y = is_le x
 
-by_orders : (o : Comparison) (w x y : Ordering) → Low w x → High w y → admits_by o x y ≡ false → passes_by o w ≡ false
+by_orders : (o : ComparisonOperator) (w x y : Ordering) → Low w x → High w y → admits_by o x y ≡ false → passes_by o w ≡ false
 by_orders op.Equal Less x y low high none = refl
 by_orders op.Equal Equal x y low high none = absurd (true≢false (sym (and_from (is_le x) (is_ge y) low high) ∙ none))
 by_orders op.Equal Greater x y low high none = refl
@@ -116,7 +116,7 @@ between range cells i (Some l) (Some g) e f low high value = record {
   below_high = high.above i value;
 }
 
-passes-value : (o : Comparison) (c v : CellValue) → is_null c ≡ false → is_null v ≡ false → test_passes o c v ≡ passes_by o (value_cmp c v)
+passes-value : (o : ComparisonOperator) (c v : CellValue) → is_null c ≡ false → is_null v ≡ false → test_passes o c v ≡ passes_by o (value_cmp c v)
 passes-value op.Equal c v e f = refl
 passes-value op.NotEqual c v e f = refl
 passes-value op.GreaterThan c v e f = rw (e, f) refl
@@ -128,7 +128,7 @@ or_tail : (a b c : Bool) → (a || b || c) ≡ false → (b || c) ≡ false
 or_tail true b c e = absurd (true≢false e)
 or_tail false b c e = e
 
-admits-value : (o : Comparison) (range : RangeOf) (v l g : CellValue) → range.least ≡ Some l → range.greatest ≡ Some g → admits_value o range v ≡ false
+admits-value : (o : ComparisonOperator) (range : RangeOf) (v l g : CellValue) → range.least ≡ Some l → range.greatest ≡ Some g → admits_value o range v ≡ false
     → admits_by o (value_cmp l v) (value_cmp g v) ≡ false
 admits-value op.Equal range v l g e f none =
     ap (λ o. is_some_and is_le (order_to o v) && is_some_and is_ge (order_to (Some g) v)) (sym e)
@@ -165,7 +165,7 @@ counted p (c ∷ cs) (suc i) lt e =
 has-null : (range : RangeOf) (cells : List CellValue) (i : ℕ) → IsRangeOf range cells → i < length cells → is_null (get_or cells i null) ≡ true → counts_nulls range ≡ true
 has-null range cells i is lt e = lt-ltb 0 range.null_count (omega (arith, is.null_count, counted is_null cells i lt e))
 
-null-value : (o : Comparison) (range : RangeOf) (v : CellValue) → value_cmp null v ≡ Less → counts_nulls range ≡ true → admits_value o range v ≡ false → test_passes o null v ≡ false
+null-value : (o : ComparisonOperator) (range : RangeOf) (v : CellValue) → value_cmp null v ≡ Less → counts_nulls range ≡ true → admits_value o range v ≡ false → test_passes o null v ≡ false
 null-value op.Equal range v less has none = ap is_eq less
 null-value op.NotEqual range v less has none =
     absurd (true≢false (ap (λ b. b || is_some_and is_ne (order_to range.least v) || is_some_and is_ne (order_to range.greatest v)) (sym has) ∙ none))
@@ -179,7 +179,7 @@ value-is c value e = true≢false (ap is_null (sym e) ∙ value)
 
 -- ---- a comparison with null
 
-null-null : (o : Comparison) (range : RangeOf) → value_cmp null null ≡ Equal → counts_nulls range ≡ true → admits_null o range ≡ false → test_passes o null null ≡ false
+null-null : (o : ComparisonOperator) (range : RangeOf) → value_cmp null null ≡ Equal → counts_nulls range ≡ true → admits_null o range ≡ false → test_passes o null null ≡ false
 null-null op.Equal range same has none = absurd (true≢false (sym has ∙ none))
 null-null op.NotEqual range same has none = ap (λ r. not (is_eq r)) same
 null-null op.GreaterThan range same has none = refl
@@ -187,7 +187,7 @@ null-null op.GreaterOrEqual range same has none = absurd (true≢false (sym has 
 null-null op.LessThan range same has none = refl
 null-null op.LessOrEqual range same has none = absurd (true≢false (sym has ∙ none))
 
-value-null : (o : Comparison) (range : RangeOf) (c l : CellValue) → value_cmp c null ≡ Greater → is_null c ≡ false → range.least ≡ Some l → admits_null o range ≡ false
+value-null : (o : ComparisonOperator) (range : RangeOf) (c l : CellValue) → value_cmp c null ≡ Greater → is_null c ≡ false → range.least ≡ Some l → admits_null o range ≡ false
     → test_passes o c null ≡ false
 value-null op.Equal range c l more value least none = ap is_eq more
 value-null op.NotEqual range c l more value least none = absurd (true≢false (ap is_some (sym least) ∙ none))
@@ -205,7 +205,7 @@ record Column (range : RangeOf) (cells : List CellValue) (i : ℕ) : Type 0 wher
 between_of : (range : RangeOf) (cells : List CellValue) (i : ℕ) → Column range cells i → is_null (get_or cells i null) ≡ false → Between range (get_or cells i null)
 between_of range cells i column value = between range cells i range.least range.greatest refl refl column.is.least column.is.greatest value
 
-to_null : ValuesAreOrdered → (o : Comparison) (range : RangeOf) (cells : List CellValue) (i : ℕ) (b : Bool) → is_null (get_or cells i null) ≡ b → Column range cells i
+to_null : ValuesAreOrdered → (o : ComparisonOperator) (range : RangeOf) (cells : List CellValue) (i : ℕ) (b : Bool) → is_null (get_or cells i null) ≡ b → Column range cells i
     → admits_null o range ≡ false → test_passes o (get_or cells i null) null ≡ false
 to_null laws o range cells i true is_null_cell column none =
     subst (λ c. test_passes o c null ≡ false) (sym (null-is (get_or cells i null) is_null_cell))
@@ -216,7 +216,7 @@ to_null laws o range cells i false value column none =
     let found = between_of range cells i column value in
     value-null o range c found.low more value found.low_is none
 
-to_value : ValuesAreOrdered → (o : Comparison) (range : RangeOf) (cells : List CellValue) (v : CellValue) (i : ℕ) (b : Bool) → is_null (get_or cells i null) ≡ b
+to_value : ValuesAreOrdered → (o : ComparisonOperator) (range : RangeOf) (cells : List CellValue) (v : CellValue) (i : ℕ) (b : Bool) → is_null (get_or cells i null) ≡ b
     → Column range cells i → is_null v ≡ false → admits_value o range v ≡ false → test_passes o (get_or cells i null) v ≡ false
 to_value laws o range cells v i true is_null_cell column literal none =
     subst (λ c. test_passes o c v ≡ false) (sym (null-is (get_or cells i null) is_null_cell))
@@ -230,7 +230,7 @@ to_value laws o range cells v i false value column literal none =
     (high_of laws.total c found.high v found.below_high (value_cmp c v) refl)
     (admits-value o range v found.low found.high found.low_is found.high_is none)
 
-by_literal : ValuesAreOrdered → (o : Comparison) (range : RangeOf) (cells : List CellValue) (v : CellValue) (i : ℕ) (b : Bool) → is_null v ≡ b → Column range cells i
+by_literal : ValuesAreOrdered → (o : ComparisonOperator) (range : RangeOf) (cells : List CellValue) (v : CellValue) (i : ℕ) (b : Bool) → is_null v ≡ b → Column range cells i
     → admits o range v ≡ false → test_passes o (get_or cells i null) v ≡ false
 by_literal laws o range cells v i true literal column none =
     subst (λ v. test_passes o (get_or cells i null) v ≡ false) (sym (null-is v literal))
@@ -240,7 +240,7 @@ by_literal laws o range cells v i false literal column none =
     to_value laws o range cells v i (is_null (get_or cells i null)) refl column literal
     (ap (λ b. cond b (admits_null o range) (admits_value o range v)) (sym literal) ∙ none)
 
-pub skips : ValuesAreOrdered → (o : Comparison) (range : RangeOf) (cells : List CellValue) (v : CellValue) → IsRangeOf range cells
+pub skips : ValuesAreOrdered → (o : ComparisonOperator) (range : RangeOf) (cells : List CellValue) (v : CellValue) → IsRangeOf range cells
     → admits o range v ≡ false → (i : ℕ) → i < length cells → test_passes o (get_or cells i null) v ≡ false
 skips laws o range cells v is none i lt = by_literal laws o range cells v i (is_null v) refl (record { is = is; lt = lt }) none
 

@@ -1,94 +1,21 @@
 -- Numbers, and the cells that they stand for.
-use Rattle.std.proofs.Common.{◌≡◌, ℕ, suc, zero, ◌+◌, ◌*◌, ◌/◌, ◌%◌, ◌<◌, ◌≤◌, inl, inr, Bool, List, [], ◌∷◌, Option, None, Some, refl, sym, ap, ◌∙◌, subst, arith}
-use Rattle.std.specs.Prelude.{ℤ, pos}
-use Rattle.std.specs.Int.{int_div_euclid}
-use Rattle.std.proofs.lemmas.Int.{ints}
-use Rattle.jiff_core.specs.Calendar.{IsDate, IsYear, days_in_month}
-use Rattle.cell_types.specs.Value.{date}
-use Rattle.block_summary.proofs.NumberLaws.{int_div_euclid-512, int_rem_euclid-512}
+use Rattle.std.proofs.Common.{◌≡◌, suc, zero, Bool, List, [], ◌∷◌, Option, None, Some, refl, ap, ◌∙◌, subst}
+use Rattle.std.specs.Prelude.{ℤ}
+use Rattle.cell_types.specs.Kind.{IsNumberOf}
+use Rattle.cell_types.specs.Laws.{NumbersStandForCells}
+use Rattle.cell_types.specs.declared.kind.NumberKind.{NumberKind}
 use Rattle.block_summary.specs.Cells.{cells_of}
-use Rattle.block_summary.specs.Types.{cells_of_type, day_number, number_of, numbers_of, place_in_year, typed_cell, AllNumbersOf, AreNumbersOf, IsNumberOf}
-use Rattle.block_summary.specs.declared.number.PackedType.{PackedType}
-use Rattle.block_summary.specs.declared.number.PackedType.TheVariants.{Integer, Decimal, Boolean, Date}
+use Rattle.block_summary.specs.Types.{cells_of_kind, numbers_of, AllNumbersOf, AreNumbersOf}
 use Rattle.block_summary.proofs.CellLemmas.{number_at}
 
--- a month and a day of a date
-pub record IsPlace (month day : ℕ) : Type 0 where
-  pub month_below : month < 16
-  pub day_below : day < 32
+pub numbers-cells : NumbersStandForCells → (kind : NumberKind) (numbers : List (Option ℤ)) → AllNumbersOf kind numbers → numbers_of (cells_of_kind kind numbers) ≡ numbers
+numbers-cells law kind [] all = refl
+numbers-cells law kind (None ∷ rest) all = ap (λ xs. None ∷ xs) (numbers-cells law kind rest (λ i. all (suc i)))
+numbers-cells law kind (Some number ∷ rest) all =
+    ap (λ x. x ∷ numbers_of (cells_of_kind kind rest)) (law.back kind number (all zero number refl))
+    ∙ ap (λ xs. Some number ∷ xs) (numbers-cells law kind rest (λ i. all (suc i)))
 
-pub month_days : (year : ℤ) (month : ℕ) → days_in_month year month ≤ 31
-month_days year month = grind arith
-
-pub date-place : (year : ℤ) (month day : ℕ) → IsDate year (pos month) (pos day) → IsPlace month day
-date-place year month day is = record {
-  month_below = omega (arith, ints, is.1.1);
-  day_below = omega (arith, ints, is.2.1, month_days year month);
-}
-
--- the parts of a day's number
-pub record HasParts (number year : ℤ) (month day : ℕ) : Type 0 where
-  pub year_is : int_div_euclid number (pos 512) ≡ year
-  pub place_is : place_in_year number ≡ 32 * month + day
-  pub month_is : place_in_year number / 32 ≡ month
-  pub day_is : place_in_year number % 32 ≡ day
-
-pub number-parts : (number year : ℤ) (month day : ℕ) → IsPlace month day → number ≡ day_number year month day → HasParts number year month day
-number-parts number year month day is e =
-    let small : 32 * month + day < 512 = omega (arith, is.month_below, is.day_below) in
-    let place : place_in_year number ≡ 32 * month + day = ap place_in_year e ∙ int_rem_euclid-512 year (32 * month + day) small in
-    record {
-      year_is = ap (λ z. int_div_euclid z (pos 512)) e ∙ int_div_euclid-512 year (32 * month + day) small;
-      place_is = place;
-      month_is = omega (arith, place, is.day_below);
-      day_is = omega (arith, place, is.day_below);
-    }
-
--- ---- the number of a cell that a number stands for
-
-date_cell : (year : ℤ) (month day : ℕ) (y : ℤ) (m d : ℕ) → y ≡ year → m ≡ month → d ≡ day → date y m d ≡ date year month day
-date_cell year month day y m d e f g = cc
-
-pub typed_cell-date : (number year : ℤ) (month day : ℕ) → HasParts number year month day → typed_cell Date number ≡ date year month day
-typed_cell-date number year month day parts = date_cell year month day _ _ _ parts.year_is parts.month_is parts.day_is
-
-pub number-typed_cell : (type : PackedType) (number : ℤ) → IsNumberOf type number → number_of (typed_cell type number) ≡ Some number
-number-typed_cell Integer number is = refl
-number-typed_cell Decimal number is = refl
-number-typed_cell Boolean number (inl e) = rw e refl
-number-typed_cell Boolean number (inr e) = rw e refl
-number-typed_cell Date number is =
-    let parts = number-parts number is.0 is.1 is.2 (date-place is.0 is.1 is.2 is.3) is.4 in
-    ap number_of (typed_cell-date number is.0 is.1 is.2 parts) ∙ ap Some (sym is.4)
-
-pub numbers-cells : (type : PackedType) (numbers : List (Option ℤ)) → AllNumbersOf type numbers → numbers_of (cells_of_type type numbers) ≡ numbers
-numbers-cells type [] all = refl
-numbers-cells type (None ∷ rest) all = ap (λ xs. None ∷ xs) (numbers-cells type rest (λ i. all (suc i)))
-numbers-cells type (Some number ∷ rest) all =
-    ap (λ x. x ∷ numbers_of (cells_of_type type rest)) (number-typed_cell type number (all zero number refl))
-    ∙ ap (λ xs. Some number ∷ xs) (numbers-cells type rest (λ i. all (suc i)))
-
-pub all-numbers : (type : PackedType) (nulls : List Bool) (values : List ℤ) → AreNumbersOf type nulls values → AllNumbersOf type (cells_of nulls values)
-all-numbers type nulls values are = λ i number e.
+pub all-numbers : (kind : NumberKind) (nulls : List Bool) (values : List ℤ) → AreNumbersOf kind nulls values → AllNumbersOf kind (cells_of nulls values)
+all-numbers kind nulls values are = λ i number e.
     let at = number_at nulls values i number e in
-    subst (IsNumberOf type) at.2 (are i at.0 at.1)
-
-pub year-fits : (year : ℤ) (month day : ℕ) (y : ℤ) → y ≡ year → IsDate year (pos month) (pos day) → IsYear y
-year-fits year month day y e is = subst IsYear (sym e) is.0
-
-pub month-fits : (year : ℤ) (month day m : ℕ) → m ≡ month → IsDate year (pos month) (pos day) → (1 ≤ m) × (m ≤ 12)
-month-fits year month day m f is = (omega (arith, ints, is.1.0), omega (arith, ints, is.1.1))
-
-pub day-fits : (year : ℤ) (month day : ℕ) (y : ℤ) (m d : ℕ) → y ≡ year → m ≡ month → d ≡ day → IsDate year (pos month) (pos day)
-    → (1 ≤ d) × (d ≤ days_in_month y m)
-day-fits year month day y m d e f g is =
-    let within : (1 ≤ day) × (day ≤ days_in_month year month) = (omega (arith, ints, is.2.0), omega (arith, ints, is.2.1)) in
-    subst (λ x. (1 ≤ x) × (x ≤ days_in_month y m)) (sym g)
-    (subst (λ x. (1 ≤ day) × (day ≤ days_in_month y x)) (sym f) (subst (λ x. (1 ≤ day) × (day ≤ days_in_month x month)) (sym e) within))
-
-pos-same : (m n : ℕ) → pos m ≡ pos n → m ≡ n
-pos-same m n e = omega (arith, ints)
-
-pub number-same : (number year : ℤ) (month day : ℕ) (y : ℤ) (m d : ℕ) → y ≡ year → pos m ≡ pos month → pos d ≡ pos day → number ≡ day_number year month day → number ≡ day_number y m d
-number-same number year month day y m d e f g is =
-    is ∙ ap (λ x. day_number x month day) (sym e) ∙ ap (λ x. day_number y x day) (sym (pos-same m month f)) ∙ ap (λ x. day_number y m x) (sym (pos-same d day g))
+    subst (IsNumberOf kind) at.2 (are i at.0 at.1)

@@ -1,26 +1,18 @@
 -- What holds of all blocks.
-use Rattle.std.specs.Prelude.{◌≡◌, ℕ, ℤ, false, List, [], ◌∷◌, ◌++◌, ◌<◌, length, slice_index_or}
-use Rattle.std.specs.Ordering.{int_cmp}
-use Rattle.cell_types.specs.Value.{CellValue, null, value_cmp}
-use Rattle.block_summary.specs.declared.number.PackedType.{PackedType}
-use Rattle.block_summary.specs.declared.test.Comparison.{Comparison}
+use Rattle.std.specs.Prelude.{◌≡◌, ℕ, false, List, [], ◌∷◌, ◌++◌, ◌<◌, length, slice_index_or}
+use Rattle.cell_types.specs.Value.{CellValue, null}
+use Rattle.cell_types.specs.declared.comparison.ComparisonOperator.{ComparisonOperator}
 use Rattle.block_summary.specs.Ranges.{RangeOf, no_range, joined_range, range_of, widened, AreRangesOf, IsRangeOf}
 use Rattle.block_summary.specs.Tests.{admits, test_passes}
-use Rattle.block_summary.specs.Types.{typed_cell, IsNumberOf}
-
--- the numbers of cells are in the order of the cells
-abbrev pub NumbersAreOrdered : Type 0
-NumbersAreOrdered = (type : PackedType) (a b : ℤ) → IsNumberOf type a → IsNumberOf type b
-    → value_cmp (typed_cell type a) (typed_cell type b) ≡ int_cmp a b
 
 -- a column that is not admitted has no cell that passes the test
 abbrev pub SkipsNothing : Type 0
-SkipsNothing = (op : Comparison) (range : RangeOf) (cells : List CellValue) (literal : CellValue) → IsRangeOf range cells
+SkipsNothing = (op : ComparisonOperator) (range : RangeOf) (cells : List CellValue) (literal : CellValue) → IsRangeOf range cells
     → admits op range literal ≡ false → (row : ℕ) → row < length cells → test_passes op (slice_index_or cells row null) literal ≡ false
 
 -- a block that is not admitted has no row whose cell in that column passes the test
 abbrev pub SkipsNoRow : Type 0
-SkipsNoRow = (op : Comparison) (ranges : List RangeOf) (rows : List (List CellValue)) (col : ℕ) (literal : CellValue) → AreRangesOf ranges rows
+SkipsNoRow = (op : ComparisonOperator) (ranges : List RangeOf) (rows : List (List CellValue)) (col : ℕ) (literal : CellValue) → AreRangesOf ranges rows
     → col < length ranges → admits op (slice_index_or ranges col no_range) literal ≡ false
     → (i : ℕ) → i < length rows → test_passes op (slice_index_or (slice_index_or rows i []) col null) literal ≡ false
 

@@ -1,22 +1,14 @@
 -- The least and the greatest cell of a column of a block, and how many of its cells are null.
-use Rattle.std.specs.Prelude.{◌≡◌, ◌<◌, length, ℕ, ◌+◌, Bool, true, false, if◌then◌else◌, List, fold, map, Option, Some, None, IsTrue, MatchOption, slice_index_or}
+pub use Rattle.cell_types.specs.Value.{is_null, IsTextCell}
+use Rattle.std.specs.Prelude.{◌≡◌, ◌<◌, length, ℕ, ◌+◌, false, if◌then◌else◌, List, fold, map, Option, Some, None, IsTrue, MatchOption, slice_index_or}
 use Rattle.std.specs.List.{count_by}
 use Rattle.std.specs.Ordering.{is_gt, is_le, is_lt}
-use Rattle.cell_types.specs.Value.{CellValue, null, text, value_cmp}
+use Rattle.cell_types.specs.Value.{CellValue, null, value_cmp}
 
 pub record RangeOf : Type 0 where
   pub least : Option CellValue
   pub greatest : Option CellValue
   pub null_count : ℕ
-
-abbrev pub is_null : CellValue → Bool
-is_null null = true
-is_null _ = false
-
--- the cell is a text, so that a copy of it takes memory
-abbrev pub IsTextCell : CellValue → Type 0
-IsTextCell (text t) = Unit {0}
-IsTextCell _ = ⊥
 
 abbrev pub AreAllNull : List CellValue → Type 0
 AreAllNull cells = (i : ℕ) → slice_index_or cells i null ≡ null

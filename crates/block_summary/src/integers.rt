@@ -10,7 +10,7 @@ ghost use Rattle.block_summary.specs.Sums.{number_sum};
 use crate::bounds::Bounds;
 use crate::lanes::{bounds_of, null_count_of, total_of};
 use crate::span::{is_turned, span_of};
-use crate::test::Comparison;
+use cell_types::ComparisonOperator;
 use frame_of_reference::{
     Offsets, add_each, mark_each, offset_at, offsets_of, rows_of, sum_of, turn_each, unmark_nulls,
 };
@@ -199,7 +199,7 @@ impl Integers {
     }
 
     /// Marks the rows whose numbers pass a comparison with a literal.
-    pub fn mark_passing(&self, op: Comparison, literal: i64, out: &mut [bool])
+    pub fn mark_passing(&self, op: ComparisonOperator, literal: i64, out: &mut [bool])
         requires { length out.old ≡ length self.now }
         ensures { out.new ≡ map (number_passes op literal) self.now }
     {

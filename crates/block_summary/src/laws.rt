@@ -1,10 +1,5 @@
 //! The laws of blocks: each function is a theorem, and does nothing.
-ghost use Rattle.block_summary.specs.Laws.{NumbersAreOrdered, OneRange, RangesJoin, RangesWiden, SkipsNoRow, SkipsNothing};
-
-/// The numbers of cells are in the order of the cells.
-pub fn numbers_are_ordered()
-    ensures { NumbersAreOrdered }
-{}
+ghost use Rattle.block_summary.specs.Laws.{OneRange, RangesJoin, RangesWiden, SkipsNoRow, SkipsNothing};
 
 /// The range of no cells, and that of one cell more than some.
 pub fn ranges_widen()

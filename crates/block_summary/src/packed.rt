@@ -7,13 +7,11 @@ ghost use Rattle.block_summary.specs.Cells.{AreUnpacked, HaveBounds};
 ghost use Rattle.block_summary.specs.Ranges.{is_null, HasGreatest, HasLeast};
 ghost use Rattle.block_summary.specs.Passing.{number_passes};
 ghost use Rattle.block_summary.specs.Sums.{number_sum};
-ghost use Rattle.block_summary.specs.Types.{cells_of_type, numbers_of, number_cells, AreNumbersOf};
+ghost use Rattle.block_summary.specs.Types.{cells_of_kind, numbers_of, number_cells, AreNumbersOf};
 
 use crate::bounds::Bounds;
 use crate::integers::Integers;
-use crate::number::{PackedType, typed_value};
-use crate::test::Comparison;
-use cell_types::Value;
+use cell_types::{ComparisonOperator, NumberKind, Value, numbers_stand_for_cells, typed_value};
 use std::alloc::{AllocError, Global};
 use std::marker::Model;
 
@@ -21,7 +19,7 @@ use std::marker::Model;
 /// bytes as the column needs in this block, and which of them are null. A column is read as a whole, into buffers of the caller's.
 #[derive(Drop)]
 pub struct PackedColumn {
-    packed_type: PackedType,
+    kind: NumberKind,
     numbers: Integers,
 }
 
@@ -31,30 +29,27 @@ impl Model for PackedColumn {
 
     ghost Value = { List CellValue };
 
-    ghost use Rattle.block_summary.specs.Types.{cells_of_type, AllNumbersOf};
+    ghost use Rattle.block_summary.specs.Types.{cells_of_kind, AllNumbersOf};
 
-    ghost view = { λ c. cells_of_type c.packed_type c.numbers };
+    ghost view = { λ c. cells_of_kind c.kind c.numbers };
 
-    ghost invariant = { λ c. AllNumbersOf c.packed_type c.numbers };
+    ghost invariant = { λ c. AllNumbersOf c.kind c.numbers };
 }
 
 impl PackedColumn {
     /// Keeps the cells that numbers and marks of nulls stand for. What stands in the place of a null does not matter.
     pub fn pack(
         alloc: Global,
-        packed_type: PackedType,
+        kind: NumberKind,
         values: &[i64],
         nulls: &[bool],
     ) -> Result<PackedColumn, AllocError>
         requires long { length nulls.now ≡ length values.now }
-        requires numbers { AreNumbersOf packed_type nulls.now values.now }
-        ensures { IfOk result (λ column. column ≡ number_cells packed_type nulls.now values.now) }
+        requires numbers { AreNumbersOf kind nulls.now values.now }
+        ensures { IfOk result (λ column. column ≡ number_cells kind nulls.now values.now) }
     {
         let numbers = Integers::pack(alloc, values, nulls)?;
-        Ok(PackedColumn {
-            packed_type,
-            numbers,
-        })
+        Ok(PackedColumn { kind, numbers })
     }
 
     /// Returns how many cells there are.
@@ -68,6 +63,7 @@ impl PackedColumn {
     pub fn number(&self, row: usize) -> Option<i64>
         ensures { result ≡ slice_index_or (numbers_of self.now) row None }
     {
+        numbers_stand_for_cells();
         self.numbers.get(row)
     }
 
@@ -76,7 +72,7 @@ impl PackedColumn {
         ensures { value_view result ≡ slice_index_or self.now row null }
     {
         match self.numbers.get(row) {
-            Some(number) => typed_value(self.packed_type, number),
+            Some(number) => typed_value(self.kind, number),
             None => Value::Null,
         }
     }
@@ -86,6 +82,7 @@ impl PackedColumn {
         requires { length out.old ≡ length self.now }
         ensures { AreUnpacked (numbers_of self.now) out.new }
     {
+        numbers_stand_for_cells();
         self.numbers.unpack(out);
     }
 
@@ -94,6 +91,7 @@ impl PackedColumn {
         requires { length out.old ≡ length self.now }
         ensures { out.new ≡ map is_null self.now }
     {
+        numbers_stand_for_cells();
         self.numbers.unpack_nulls(out);
     }
 
@@ -101,6 +99,7 @@ impl PackedColumn {
     pub fn bounds(&self) -> Option<Bounds>
         ensures { HaveBounds result (numbers_of self.now) }
     {
+        numbers_stand_for_cells();
         self.numbers.bounds()
     }
 
@@ -109,10 +108,11 @@ impl PackedColumn {
         ensures least { HasLeast (option_map value_view result.0) self.now }
         ensures greatest { HasGreatest (option_map value_view result.1) self.now }
     {
+        numbers_stand_for_cells();
         match self.numbers.bounds() {
             Some(bounds) => (
-                Some(typed_value(self.packed_type, bounds.least)),
-                Some(typed_value(self.packed_type, bounds.greatest)),
+                Some(typed_value(self.kind, bounds.least)),
+                Some(typed_value(self.kind, bounds.greatest)),
             ),
             None => (None, None),
         }
@@ -126,24 +126,27 @@ impl PackedColumn {
     }
 
     /// Returns what the numbers stand for; of nulls alone, any.
-    pub fn packed_type(&self) -> PackedType
-        ensures { cells_of_type result (numbers_of self.now) ≡ self.now }
+    pub fn kind(&self) -> NumberKind
+        ensures { cells_of_kind result (numbers_of self.now) ≡ self.now }
     {
-        self.packed_type
+        numbers_stand_for_cells();
+        self.kind
     }
 
     /// Returns the sum of the numbers; nulls are passed over.
     pub fn sum(&self) -> i128
         ensures { result ≡ number_sum (numbers_of self.now) }
     {
+        numbers_stand_for_cells();
         self.numbers.sum()
     }
 
     /// Marks the rows whose numbers pass a comparison with a literal, and no others. No number is unpacked.
-    pub fn mark_passing(&self, op: Comparison, literal: i64, out: &mut [bool])
+    pub fn mark_passing(&self, op: ComparisonOperator, literal: i64, out: &mut [bool])
         requires { length out.old ≡ length self.now }
         ensures { out.new ≡ map (number_passes op literal) (numbers_of self.now) }
     {
+        numbers_stand_for_cells();
         self.numbers.mark_passing(op, literal, out);
     }
 }

@@ -6,10 +6,9 @@ ghost use Rattle.block_summary.specs.Ranges.{greater, greater_of, joined_range, 
 ghost use Rattle.block_summary.specs.Tests.{admits as admits_test, order_to};
 
 use crate::packed::PackedColumn;
-use crate::test::{Comparison, Test};
-use cell_types::Value;
+use crate::test::Test;
+use cell_types::{ComparisonOperator, Value, owned};
 use std::alloc::{AllocError, Global};
-use std::borrow::CowStr;
 use std::cmp::Ordering;
 use std::marker::Model;
 
@@ -41,21 +40,6 @@ fn order_of(bound: &Option<Value<'static>>, literal: &Value<'_>) -> Option<Order
         Some(value) => Some(value.cmp(literal)),
         None => None,
     }
-}
-
-/// Returns a copy of a value that lives on its own.
-fn owned(alloc: Global, value: &Value<'_>) -> Result<Value<'static>, AllocError>
-    ensures copy { IfOk result (λ copy. value_view copy ≡ value_view value.now) }
-    ensures memory { IsErr result → IsTextCell (value_view value.now) }
-{
-    Ok(match value {
-        Value::Null => Value::Null,
-        Value::Int(number) => Value::Int(*number),
-        Value::Text(text) => Value::Text(CowStr::Owned(String::from_str(alloc, text.as_str())?)),
-        Value::Bool(truth) => Value::Bool(*truth),
-        Value::Date(date) => Value::Date(*date),
-        Value::Decimal(millionths) => Value::Decimal(*millionths),
-    })
 }
 
 /// Returns a copy of `bound` that lives on its own.
@@ -248,29 +232,32 @@ impl Range {
     {
         if matches!(test.literal, Value::Null) {
             return match test.op {
-                Comparison::GreaterThan | Comparison::LessThan => false,
-                Comparison::NotEqual => self.least.is_some(),
+                ComparisonOperator::GreaterThan | ComparisonOperator::LessThan => false,
+                ComparisonOperator::NotEqual => self.least.is_some(),
                 _ => self.null_count > 0,
             };
         }
         let least = order_of(&self.least, &test.literal);
         let greatest = order_of(&self.greatest, &test.literal);
         match test.op {
-            Comparison::Equal => {
+            ComparisonOperator::Equal => {
                 matches!(least, Some(Ordering::Less | Ordering::Equal))
                     && matches!(greatest, Some(Ordering::Greater | Ordering::Equal))
             }
-            Comparison::NotEqual => {
+            ComparisonOperator::NotEqual => {
                 self.null_count > 0
                     || matches!(least, Some(Ordering::Less | Ordering::Greater))
                     || matches!(greatest, Some(Ordering::Less | Ordering::Greater))
             }
-            Comparison::GreaterThan => matches!(greatest, Some(Ordering::Greater)),
-            Comparison::GreaterOrEqual => {
+            ComparisonOperator::GreaterThan => matches!(greatest, Some(Ordering::Greater)),
+            ComparisonOperator::GreaterOrEqual => {
                 matches!(greatest, Some(Ordering::Greater | Ordering::Equal))
             }
-            Comparison::LessThan => matches!(least, Some(Ordering::Less)),
-            Comparison::LessOrEqual => matches!(least, Some(Ordering::Less | Ordering::Equal)),
+            ComparisonOperator::LessThan => matches!(least, Some(Ordering::Less)),
+            ComparisonOperator::LessOrEqual => matches!(
+                least,
+                Some(Ordering::Less | Ordering::Equal)
+            ),
         }
     }
 }

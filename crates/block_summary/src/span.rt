@@ -4,7 +4,7 @@ ghost use Rattle.std.specs.Prelude.{◌≡◌};
 ghost use Rattle.block_summary.specs.Passing.{is_turned as is_turned_of, SpansPassing};
 
 use crate::bounds::Bounds;
-use crate::test::Comparison;
+use cell_types::ComparisonOperator;
 
 /// Between these lies no number.
 const NO_NUMBERS: Bounds = Bounds {
@@ -14,7 +14,7 @@ const NO_NUMBERS: Bounds = Bounds {
 
 /// Returns two numbers between which those lie that are greater than a literal.
 fn span_above(literal: i64) -> Bounds
-    ensures { SpansPassing Comparison.GreaterThan literal result }
+    ensures { SpansPassing ComparisonOperator.GreaterThan literal result }
 {
     match literal.checked_add(1) {
         Some(least) => Bounds {
@@ -27,7 +27,7 @@ fn span_above(literal: i64) -> Bounds
 
 /// Returns two numbers between which those lie that are less than a literal.
 fn span_below(literal: i64) -> Bounds
-    ensures { SpansPassing Comparison.LessThan literal result }
+    ensures { SpansPassing ComparisonOperator.LessThan literal result }
 {
     match literal.checked_sub(1) {
         Some(greatest) => Bounds {
@@ -39,28 +39,28 @@ fn span_below(literal: i64) -> Bounds
 }
 
 /// Returns true if those pass that do not lie between the two numbers.
-pub fn is_turned(op: Comparison) -> bool
+pub fn is_turned(op: ComparisonOperator) -> bool
     ensures { result ≡ is_turned_of op }
 {
-    matches!(op, Comparison::NotEqual)
+    matches!(op, ComparisonOperator::NotEqual)
 }
 
 /// Returns two numbers between which those lie that pass a comparison with a literal; for `ne`, those that are equal.
-pub fn span_of(op: Comparison, literal: i64) -> Bounds
+pub fn span_of(op: ComparisonOperator, literal: i64) -> Bounds
     ensures { SpansPassing op literal result }
 {
     match op {
-        Comparison::Equal | Comparison::NotEqual => Bounds {
+        ComparisonOperator::Equal | ComparisonOperator::NotEqual => Bounds {
             least: literal,
             greatest: literal,
         },
-        Comparison::GreaterThan => span_above(literal),
-        Comparison::GreaterOrEqual => Bounds {
+        ComparisonOperator::GreaterThan => span_above(literal),
+        ComparisonOperator::GreaterOrEqual => Bounds {
             least: literal,
             greatest: i64::MAX,
         },
-        Comparison::LessThan => span_below(literal),
-        Comparison::LessOrEqual => Bounds {
+        ComparisonOperator::LessThan => span_below(literal),
+        ComparisonOperator::LessOrEqual => Bounds {
             least: i64::MIN,
             greatest: literal,
         },

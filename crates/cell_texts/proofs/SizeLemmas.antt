@@ -12,19 +12,28 @@ flat_push f [] x = omega (arith, length-append (f x) [])
 flat_push f (first ∷ xs) x =
     omega (arith, length-append (f first) (flat_map f (xs ++ x ∷ [])), length-append (f first) (flat_map f xs), flat_push f xs x)
 
+one_longer : (f : CellValue → List ℕ) (values : List CellValue) (value : CellValue) (col : ℕ) → col < length values → get_or values col null ≡ value
+    → length (flat_map f (take (col + 1) values)) ≡ length (flat_map f (take col values)) + length (f value)
+one_longer f values value col within is =
+    ap (λ l. length (flat_map f l)) (take_more values col null within) ∙ flat_push f (take col values) (get_or values col null)
+    ∙ ap (λ v. length (flat_map f (take col values)) + length (f v)) is
+
 -- one value more
 pub value_more : (f : CellValue → List ℕ) (values : List CellValue) (value : CellValue) (start col size after : ℕ) → col < length values → get_or values col null ≡ value
     → size ≡ told (start + length (flat_map f (take col values))) → after ≡ told (size + length (f value)) → after ≡ told (start + length (flat_map f (take (col + 1) values)))
-value_more f values value start col size after within is so_far after_is =
-    let longer : length (flat_map f (take (col + 1) values)) ≡ length (flat_map f (take col values)) + length (f value) =
-    ap (λ l. length (flat_map f l)) (take_more values col null within) ∙ flat_push f (take col values) (get_or values col null)
-    ∙ ap (λ v. length (flat_map f (take col values)) + length (f v)) is in
-    omega (arith, longer, so_far, after_is)
+value_more f values value start col size after within is so_far after_is = omega (arith, one_longer f values value col within is, so_far, after_is)
 
 -- all of them
 pub every_value : (f : CellValue → List ℕ) (values : List CellValue) (start col size : ℕ) → length values ≤ col → size ≡ told (start + length (flat_map f (take col values)))
     → size ≡ told (start + length (flat_map f values))
 every_value f values start col size past is = is ∙ ap (λ l. told (start + length (flat_map f l))) (take_all col values past)
+
+-- the same of numbers of bytes that values do not pass
+pub room_more : (f : CellValue → List ℕ) (values : List CellValue) (value : CellValue) (start col size room after : ℕ) → col < length values → get_or values col null ≡ value
+    → told (start + length (flat_map f (take col values))) ≤ size → told (length (f value)) ≤ room → after ≡ told (size + room)
+    → told (start + length (flat_map f (take (col + 1) values))) ≤ after
+room_more f values value start col size room after within is so_far fits after_is =
+    omega (arith, one_longer f values value col within is, so_far, fits, after_is)
 
 -- the value that is read from a row that is lent
 pub value_lent : (rows : List (List CellValue)) (row col : ℕ) (lent : List CellValue) (value : CellValue) → row < length rows → slice_get rows row ≡ Some lent → slice_get lent col ≡ Some value

@@ -1,16 +1,9 @@
 -- Sizes to which others are added.
-use Rattle.std.specs.Prelude.{◌≡◌, ◌+◌, ◌<◌, ℕ, zero, suc, Bool, true, false, List, [], get_or, length}
+use Rattle.std.specs.Prelude.{◌≡◌, ◌+◌, ◌<◌, ℕ, zero, suc, List, [], get_or, length}
 use Rattle.std.specs.List.{flat_map}
 use Rattle.cell_texts.specs.declared.row_sizes.Frame.{Frame}
 use Rattle.cell_types.specs.Value.{CellValue, null}
-use Rattle.reply_values.specs.Csv.{csv_value}
-use Rattle.reply_values.specs.Json.{json_value}
 use Rattle.reply_values.specs.Size.{told}
-
--- the text of a cell, in JSON or in CSV
-abbrev pub printed_value : Bool → CellValue → List ℕ
-printed_value true = json_value
-printed_value false = csv_value
 
 -- how many bytes the row with a number takes without its values
 abbrev pub frame_at : Frame → ℕ → ℕ

@@ -8,9 +8,10 @@ const TOGETHER: usize = 8;
 /// How many rows came one after another while their block was read, and are near.
 const NEAR: usize = 4096;
 
-/// Reads cells before their rows are needed: of rows that are near, none.
-pub fn none_seen(rows: usize) -> Option<u8> {
-    if rows > NEAR { Some(0) } else { None }
+/// Returns what was read of rows before any is needed, or `None` if none has to be read ahead: few rows are near, and so are rows that follow on one another.
+pub fn none_seen(columns: &Columns) -> Option<u8> {
+    let are_near = columns.len() <= NEAR || columns.block_rows(0, 1).is_some();
+    if are_near { None } else { Some(0) }
 }
 
 /// Returns a byte that a value has, or tells. None is asked for; to tell it the cell is read.

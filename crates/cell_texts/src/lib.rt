@@ -4,11 +4,9 @@
 
 mod ahead;
 mod put;
-mod rooms;
 mod row_sizes;
 mod sizes;
 
 pub use ahead::{none_seen, read_ahead};
-pub use put::{put_csv_cell, put_json_cell};
-pub use rooms::{csv_cell_room, json_cell_room};
-pub use row_sizes::{Frame, put_sizes, row_size};
+pub use put::put_cell;
+pub use row_sizes::{Frame, put_sizes, row_room, row_size};

@@ -1,13 +1,13 @@
 //! How many bytes the values of rows take, in JSON or in CSV. None is written. The cells that rows of one block have in a column are counted one after another.
-ghost use Rattle.std.specs.Prelude.{◌≡◌, ◌+◌, ◌<◌, ◌≤◌, [], get_or, length};
+ghost use Rattle.std.specs.Prelude.{◌≡◌, ◌+◌, ◌<◌, ◌≤◌, ℕ, [], get_or, length};
 ghost use Rattle.std.specs.List.{flat_map};
-ghost use Rattle.cell_texts.specs.Sizes.{printed_value, frame_at, AreCellsCounted, AreRowsCounted};
+ghost use Rattle.cell_types.specs.Value.{null};
+ghost use Rattle.cell_texts.specs.Sizes.{frame_at, AreCellsCounted, AreRowsCounted};
+ghost use Rattle.reply_values.specs.Printed.{printed_value};
 ghost use Rattle.reply_values.specs.Size.{told};
-ghost use Rattle.row_columns.specs.Cell.{cell_view};
 
-use crate::ahead::read_ahead;
-use crate::sizes::{csv_cell_size, json_cell_size};
-use row_columns::{Cell, ColumnPart, Columns};
+use crate::sizes::{cell_room, cell_size};
+use row_columns::{ColumnPart, Columns};
 
 /// How many bytes a row takes without its values: the first row, and how many more each other one.
 #[derive(Clone, Copy, Drop)]
@@ -29,18 +29,6 @@ impl Frame {
     }
 }
 
-/// Returns how many bytes a cell takes.
-#[inline(always)]
-fn cell_size<const JSON: bool>(cell: Cell<'_>) -> usize
-    ensures { result ≡ told (length (printed_value JSON (cell_view cell.entry))) }
-{
-    if JSON {
-        json_cell_size(cell)
-    } else {
-        csv_cell_size(cell)
-    }
-}
-
 /// Returns `start` and how many bytes the values of the row with a number take.
 pub fn row_size<const JSON: bool>(columns: &Columns, row: usize, start: usize) -> usize
     requires { row < length columns.now.rows }
@@ -56,6 +44,21 @@ pub fn row_size<const JSON: bool>(columns: &Columns, row: usize, start: usize) -
     size
 }
 
+/// Returns a number of bytes that `start` and the values of the row with a number do not pass. No text is looked at.
+pub fn row_room<const JSON: bool>(columns: &Columns, row: usize, start: usize) -> usize
+    requires { row < length columns.now.rows }
+    ensures { told (start + length (flat_map (printed_value JSON) (get_or columns.now.rows row [])))
+        ≤ result }
+{
+    columns.rows_are_wide();
+    let values = columns.row_ref(row);
+    let mut room = start;
+    for col in 0..columns.width() {
+        room = room.saturating_add(cell_room::<JSON>(values.cell(col)));
+    }
+    room
+}
+
 /// Adds to each size how many bytes its cell takes.
 #[inline(never)]
 fn add_cells<const JSON: bool>(cells: &ColumnPart<'_>, sizes: &mut [usize])
@@ -67,14 +70,31 @@ fn add_cells<const JSON: bool>(cells: &ColumnPart<'_>, sizes: &mut [usize])
     }
 }
 
-/// Writes the size of each of as many rows from `first` on as there are places, with the frame of the row. Returns what was read ahead, as [`read_ahead`] does.
+/// Adds to each size how many bytes the cell of its row takes in a column, of as many rows from `first` on as there are places. Such cells may be far from one
+/// another: one column after another, several come from memory at once.
+#[inline(never)]
+fn add_far_cells<const JSON: bool>(columns: &Columns, first: usize, col: usize, sizes: &mut [usize])
+    requires rows { first + length sizes.old ≤ length columns.now.rows }
+    requires col { col < length columns.now.kinds }
+    ensures long { length sizes.new ≡ length sizes.old }
+    ensures each { (i : ℕ) → i < length sizes.old → get_or sizes.new i 0
+        ≡ told (get_or sizes.old i 0 + length
+        (printed_value JSON (get_or (get_or columns.now.rows (first + i) []) col null))) }
+{
+    let _rows = columns.len(); // each row has a number that fits
+    for i in 0..sizes.len() {
+        let cell = columns.row_ref(first + i).cell(col);
+        sizes[i] = sizes[i].saturating_add(cell_size::<JSON>(cell));
+    }
+}
+
+/// Writes the size of each of as many rows from `first` on as there are places, with the frame of the row.
 pub fn put_sizes<const JSON: bool>(
     columns: &Columns,
     first: usize,
     frame: Frame,
     sizes: &mut [usize],
-    seen: Option<u8>,
-) -> Option<u8>
+)
     requires { first + length sizes.old ≤ length columns.now.rows }
     ensures long { length sizes.new ≡ length sizes.old }
     ensures sizes { AreRowsCounted (printed_value JSON) columns.now.rows first frame sizes.new }
@@ -89,15 +109,11 @@ pub fn put_sizes<const JSON: bool>(
             for col in 0..columns.width() {
                 add_cells::<JSON>(&rows.column(col), sizes);
             }
-            seen
         }
         None => {
-            let mut seen = seen;
-            for i in 0..sizes.len() {
-                seen = read_ahead(columns, first + i, seen);
-                sizes[i] = row_size::<JSON>(columns, first + i, sizes[i]);
+            for col in 0..columns.width() {
+                add_far_cells::<JSON>(columns, first, col, sizes);
             }
-            seen
         }
     }
 }

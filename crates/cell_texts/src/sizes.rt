@@ -1,44 +1,46 @@
-//! How many bytes the texts of cells take. None is written.
-ghost use Rattle.std.specs.Prelude.{◌≡◌, length};
-ghost use Rattle.reply_values.specs.Csv.{csv_value};
-ghost use Rattle.reply_values.specs.Json.{json_value};
+//! How many bytes the texts of cells take, or do not pass. None is written.
+ghost use Rattle.std.specs.Prelude.{◌≡◌, ◌≤◌, length};
+ghost use Rattle.reply_values.specs.Printed.{printed_value};
 ghost use Rattle.reply_values.specs.Size.{told};
 ghost use Rattle.row_columns.specs.Cell.{cell_view};
 
 use reply_values::{
-    bool_size, csv_value_size, date_size, decimal_size, field_size, integer_size, json_value_size,
-    text_size,
+    bool_size, date_size, decimal_size, integer_size, number_room, text_room, text_size, value_size,
 };
 use row_columns::Cell;
 
-/// Returns how many bytes a cell takes in JSON.
+/// Returns how many bytes a cell takes, in JSON or in CSV.
 #[inline(always)]
-pub fn json_cell_size(cell: Cell<'_>) -> usize
-    ensures { result ≡ told (length (json_value (cell_view cell.entry))) }
+pub fn cell_size<const JSON: bool>(cell: Cell<'_>) -> usize
+    ensures { result ≡ told (length (printed_value JSON (cell_view cell.entry))) }
 {
     match cell {
-        Cell::Null => 4,
-        Cell::Integer(number) => integer_size(i128::from(number)),
-        Cell::Decimal(millionths) => decimal_size(i128::from(millionths)),
-        Cell::Boolean(truth) => bool_size(truth),
-        Cell::Date(date) => date_size(date) + 2,
-        Cell::Text(text) => text_size(text.as_bytes()),
-        Cell::Value(value) => json_value_size(value),
-    }
-}
-
-/// Returns how many bytes a cell takes in CSV; null takes none.
-#[inline(always)]
-pub fn csv_cell_size(cell: Cell<'_>) -> usize
-    ensures { result ≡ told (length (csv_value (cell_view cell.entry))) }
-{
-    match cell {
+        Cell::Null if JSON => 4,
         Cell::Null => 0,
         Cell::Integer(number) => integer_size(i128::from(number)),
         Cell::Decimal(millionths) => decimal_size(i128::from(millionths)),
         Cell::Boolean(truth) => bool_size(truth),
-        Cell::Date(date) => date_size(date),
-        Cell::Text(text) => field_size(text.as_bytes()),
-        Cell::Value(value) => csv_value_size(value),
+        Cell::Date(date) => date_size::<JSON>(date),
+        Cell::Text(text) => text_size::<JSON>(text.as_bytes()),
+        Cell::Value(value) => value_size::<JSON>(value),
+    }
+}
+
+/// No cell of a block but a text takes more bytes. It is given for each of these, so that none has to be read.
+const SHORT: usize = 22;
+
+/// Returns a number of bytes that a cell does not pass, in JSON or in CSV. No text is looked at, and no number.
+#[inline(always)]
+pub fn cell_room<const JSON: bool>(cell: Cell<'_>) -> usize
+    ensures { told (length (printed_value JSON (cell_view cell.entry))) ≤ result }
+{
+    match cell {
+        Cell::Null => SHORT,
+        Cell::Integer(number) => number_room(number),
+        Cell::Decimal(millionths) => number_room(millionths),
+        Cell::Boolean(truth) => bool_size(truth).max(SHORT),
+        Cell::Date(date) => date_size::<JSON>(date).max(SHORT),
+        Cell::Text(text) => text_room::<JSON>(text.as_bytes()),
+        Cell::Value(value) => value_size::<JSON>(value),
     }
 }

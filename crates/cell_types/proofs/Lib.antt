@@ -1,6 +1,7 @@
 pub mod ListLaws
 pub mod CaseLaws
 pub mod DigitLaws
+pub mod NumberLaws
 pub mod WordLemmas
 pub mod WhiteSpaceLemmas
 pub mod IntegerLemmas
@@ -12,3 +13,6 @@ pub mod PlainLemmas
 pub mod CodePoints
 pub mod CellLemmas
 pub mod ValueLemmas
+pub mod KindLemmas
+pub mod OrderLemmas
+pub mod ReadingLemmas

@@ -1,16 +1,17 @@
 -- What holds of all texts and values.
-use Rattle.std.specs.Prelude.{◌≡◌, ◌≢◌, ◌↔◌, ℕ, ℤ, List, ◌+◌, ◌<◌, true, false, pos, IsTrue, Ok, Err, length, slice_index}
+use Rattle.std.specs.Prelude.{◌≡◌, ◌≢◌, ◌↔◌, ℕ, ℤ, List, ◌+◌, ◌<◌, true, false, pos, IsTrue, Ok, Err, Some, length, slice_index}
 use Rattle.std.specs.Cmp.{IsTotalOrder}
 use Rattle.std.specs.Cmp.Lexicographic.{slice_cmp}
 use Rattle.std.specs.Fmt.{signed_decimal}
 use Rattle.std.specs.Int.{w64}
 use Rattle.std.specs.Int.RustNames.{FitsSigned}
-use Rattle.std.specs.Ordering.{nat_cmp}
+use Rattle.std.specs.Ordering.{int_cmp, nat_cmp}
 use Rattle.std.specs.Str.{IsUtf8, chars}
 use Rattle.std.specs.declared.cmp.Ordering.TheVariants.{Equal, Less}
 use Rattle.jiff_core.specs.Calendar.{IsDate}
 use Rattle.cell_types.specs.declared.fault.CellFault.TheVariants.{NoMemory}
 use Rattle.cell_types.specs.declared.datatype.DateForm.{DateForm}
+use Rattle.cell_types.specs.declared.kind.NumberKind.{NumberKind}
 use Rattle.cell_types.specs.Cell.{value_of}
 use Rattle.cell_types.specs.Column.{ColumnOf, takes_all_texts}
 use Rattle.cell_types.specs.Datatype as datatype
@@ -18,7 +19,8 @@ use Rattle.cell_types.specs.Datatype.{DatatypeOf}
 use Rattle.cell_types.specs.Date.{IsDateText, date_of, date_text, is_date}
 use Rattle.cell_types.specs.Decimal.{decimal_of, decimal_text}
 use Rattle.cell_types.specs.Integer.{integer_of}
-use Rattle.cell_types.specs.Value.{CellValue, boolean, date, decimal, integer, null, text, value_cmp, value_eq}
+use Rattle.cell_types.specs.Kind.{number_of, typed_cell, IsNumberOf}
+use Rattle.cell_types.specs.Value.{CellValue, boolean, date, decimal, integer, is_null, null, text, value_cmp, value_eq}
 use Rattle.cell_types.specs.WhiteSpace.{is_white, normal_text, words}
 
 -- a text in a column has a value or one of seven causes: out of memory is none of them
@@ -52,6 +54,12 @@ pub record DatesReadBack : Type 0 where
 pub record DecimalsReadBack : Type 0 where
   pub back : (z : ℤ) → FitsSigned w64 z → decimal_of (decimal_text z) ≡ Ok (decimal z)
   pub only : (bytes : List ℕ) (v : CellValue) → decimal_of bytes ≡ Ok v → (z : ℤ) × FitsSigned w64 z × (v ≡ decimal z)
+
+-- a number stands for a value, and is the number of that value; of two numbers of one kind the lesser stands for the lesser value
+pub record NumbersStandForCells : Type 0 where
+  pub value : (kind : NumberKind) (number : ℤ) → is_null (typed_cell kind number) ≡ false
+  pub back : (kind : NumberKind) (number : ℤ) → IsNumberOf kind number → number_of (typed_cell kind number) ≡ Some number
+  pub order : (kind : NumberKind) (a b : ℤ) → IsNumberOf kind a → IsNumberOf kind b → value_cmp (typed_cell kind a) (typed_cell kind b) ≡ int_cmp a b
 
 -- values are one where they are equal, the order of values is total, and null comes before all others
 pub record ValuesAreOrdered : Type 0 where

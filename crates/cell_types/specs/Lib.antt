@@ -1,5 +1,6 @@
 pub mod Value
 pub mod Datatype
+pub mod Kind
 pub mod Column
 pub mod WhiteSpace
 pub mod Integer

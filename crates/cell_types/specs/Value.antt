@@ -18,6 +18,15 @@ pub data CellValue : Type 0 where
   date : ℤ → ℕ → ℕ → CellValue
   decimal : ℤ → CellValue
 
+abbrev pub is_null : CellValue → Bool
+is_null null = true
+is_null _ = false
+
+-- the cell is a text, so that a copy of it takes memory
+abbrev pub IsTextCell : CellValue → Type 0
+IsTextCell (text t) = Unit {0}
+IsTextCell _ = ⊥
+
 abbrev pub value_view : Value → CellValue
 value_view Null = null
 value_view (Int z) = integer z

@@ -1,7 +1,7 @@
 //! The laws of the definitions of cells: each function is a theorem, and does nothing.
 ghost use Rattle.std.specs.Prelude.{◌≡◌};
 ghost use Rattle.cell_types.specs.declared.value.Value.{Value};
-ghost use Rattle.cell_types.specs.Laws.{DatesReadBack, DecimalsReadBack, IntegersReadBack, MemoryIsNoCause, NormalTexts, StringsHaveValues, TextsAreInOrder, ValuesAreOrdered, ValuesFitColumns};
+ghost use Rattle.cell_types.specs.Laws.{DatesReadBack, DecimalsReadBack, IntegersReadBack, MemoryIsNoCause, NormalTexts, NumbersStandForCells, StringsHaveValues, TextsAreInOrder, ValuesAreOrdered, ValuesFitColumns};
 ghost use Rattle.cell_types.specs.Value.{value_cmp, value_eq, value_view};
 ghost use Rattle.cell_types.specs.Worked.{WorkedCells};
 
@@ -41,6 +41,11 @@ pub fn dates_read_back()
 /// The text of a decimal reads as that decimal.
 pub fn decimals_read_back()
     ensures { DecimalsReadBack }
+{}
+
+/// A number stands for a value, and is the number of that value. Of two numbers of one kind the lesser stands for the lesser value.
+pub fn numbers_stand_for_cells()
+    ensures { NumbersStandForCells }
 {}
 
 /// States texts of cells with their values and faults, worked out by hand.

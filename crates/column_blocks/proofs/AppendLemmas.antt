@@ -1,10 +1,10 @@
 -- Blocks after blocks that are full.
-use Rattle.std.proofs.Common.{◌≡◌, ℕ, zero, suc, ◌+◌, ◌*◌, ◌<◌, ◌≤◌, Bool, true, false, if◌then◌else◌, List, [], ◌∷◌, ◌++◌, Option, length, length-append, ap, sym, subst, ◌∙◌, arith}
+use Rattle.std.proofs.Common.{◌≡◌, ℕ, zero, suc, ◌+◌, ◌*◌, ◌<◌, ◌≤◌, Bool, true, false, if◌then◌else◌, List, [], ◌∷◌, ◌++◌, length, length-append, ap, sym, subst, ◌∙◌, arith}
 use Rattle.std.proofs.lemmas.List.{append-nil, map-append}
 use Rattle.std.proofs.lemmas.Grind.{flat_map-append}
-use Rattle.block_summary.specs.declared.number.PackedType.{PackedType}
+use Rattle.cell_types.specs.declared.kind.ColumnKind.{ColumnKind}
 use Rattle.cell_types.specs.Value.{CellValue}
-use Rattle.column_blocks.specs.TypedColumn.{ColumnCells, cells_in, cells_of_each, AreBlocks, AreFull, AreOfType}
+use Rattle.column_blocks.specs.TypedColumn.{ColumnCells, cells_in, cells_of_each, AreBlocks, AreFull, HaveKind}
 
 -- a last block that has as many cells as `count` blocks is full
 last_full : (size count : ℕ) (last : List CellValue) → 0 < length last → length last ≤ size → length last ≡ count * size → length last ≡ size
@@ -32,9 +32,9 @@ blocks_after size (block ∷ []) [] are some after = (omega (arith, are.0, some)
 blocks_after size (block ∷ []) (next ∷ behind) are some after = (are.0, after)
 blocks_after size (block ∷ next ∷ front) behind are some after = (are.0, blocks_after size (next ∷ front) behind are.1 some after)
 
-pub types_after : (type : Option PackedType) (front behind : List ColumnCells) → AreOfType type front → AreOfType type behind → AreOfType type (front ++ behind)
-types_after type [] behind of after = after
-types_after type (block ∷ front) behind of after = (of.0, types_after type front behind of.1 after)
+pub types_after : (kind : ColumnKind) (front behind : List ColumnCells) → HaveKind kind front → HaveKind kind behind → HaveKind kind (front ++ behind)
+types_after kind [] behind of after = after
+types_after kind (block ∷ front) behind of after = (of.0, types_after kind front behind of.1 after)
 
 pub each_after : (front behind : List ColumnCells) → cells_of_each (front ++ behind) ≡ cells_of_each front ++ cells_of_each behind
 each_after front behind = map-append (λ (block : ColumnCells). block.cells) front behind
@@ -45,15 +45,15 @@ cells_after front behind =
     ap cells_in (each_after front behind) ∙ flat_map-append (λ cells. cells) (cells_of_each front) (cells_of_each behind)
 
 -- the blocks of a column
-pub record AreBlocksOf (size : ℕ) (type : Option PackedType) (blocks : List ColumnCells) : Type 0 where
+pub record AreBlocksOf (size : ℕ) (kind : ColumnKind) (blocks : List ColumnCells) : Type 0 where
   pub blocks_are : AreBlocks size (cells_of_each blocks)
-  pub types_are : AreOfType type blocks
+  pub types_are : HaveKind kind blocks
 
-pub column_after : (size count : ℕ) (type other : Option PackedType) (front behind new : List ColumnCells) (done : Bool) → 0 < size
-    → AreBlocks size (cells_of_each front) → AreOfType type front → AreBlocks size (cells_of_each behind) → AreOfType other behind → other ≡ type
-    → length (cells_in (cells_of_each front)) ≡ count * size → new ≡ (if done then front ++ behind else front) → AreBlocksOf size type new
-column_after size count type other front behind new true some are of after kinds same whole is = rw is record {
+pub column_after : (size count : ℕ) (kind other : ColumnKind) (front behind new : List ColumnCells) (done : Bool) → 0 < size
+    → AreBlocks size (cells_of_each front) → HaveKind kind front → AreBlocks size (cells_of_each behind) → HaveKind other behind → other ≡ kind
+    → length (cells_in (cells_of_each front)) ≡ count * size → new ≡ (if done then front ++ behind else front) → AreBlocksOf size kind new
+column_after size count kind other front behind new true some are of after kinds same whole is = rw is record {
   blocks_are = rw (each_after front behind) (blocks_after size (cells_of_each front) (cells_of_each behind) (full size count (cells_of_each front) are some whole) some after);
-  types_are = types_after type front behind of (subst (λ t. AreOfType t behind) same kinds);
+  types_are = types_after kind front behind of (subst (λ t. HaveKind t behind) same kinds);
 }
-column_after size count type other front behind new false some are of after kinds same whole is = rw is record { blocks_are = are; types_are = of }
+column_after size count kind other front behind new false some are of after kinds same whole is = rw is record { blocks_are = are; types_are = of }

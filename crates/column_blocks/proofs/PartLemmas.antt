@@ -55,10 +55,10 @@ one_more cells read more cell e = append_assoc cells read (cell ∷ []) ∙ ap (
 
 -- where the empty text alone is null, each text has a value
 text_value : (column : ColumnOf) (bytes : List ℕ) → column.datatype ≡ datatype.text → EmptyIsNull column → value_of column bytes ≡ Ok (content_cell true bytes)
-text_value column [] type plain = rw (type, plain.default, plain.nulls, plain.required) refl
-text_value column (byte ∷ bytes) type plain =
+text_value column [] kind plain = rw (kind, plain.default, plain.nulls, plain.required) refl
+text_value column (byte ∷ bytes) kind plain =
     let some : suc (length bytes) == 0 ≡ false = ne_eqb (suc (length bytes)) 0 (λ e. absurd (omega (arith, e))) in
-    rw (type, plain.nulls, some) refl
+    rw (kind, plain.nulls, some) refl
 
 pub plain_value : (column : ColumnOf) (raw : RawField) → column.datatype ≡ datatype.text → EmptyIsNull column → value_in (column, raw) ≡ Ok (content_cell true (raw_content raw))
-plain_value column raw type plain = text_value column (raw_content raw) type plain
+plain_value column raw kind plain = text_value column (raw_content raw) kind plain

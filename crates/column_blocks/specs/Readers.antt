@@ -1,11 +1,11 @@
 -- The cells of a column of numbers, and of one of texts, as they are read.
 use Rattle.std.specs.Prelude.{ℕ, List, [], ◌∷◌, ◌++◌, Option, None, Some}
-use Rattle.block_summary.specs.declared.number.PackedType.{PackedType}
+use Rattle.cell_types.specs.declared.kind.NumberKind.{NumberKind}
 use Rattle.cell_types.specs.Value.{CellValue, null, text}
 
 -- what the numbers stand for, how many cells there are to be, and those so far
 pub record NumberReaderOf : Type 0 where
-  pub packed_type : PackedType
+  pub kind : NumberKind
   pub rows : ℕ
   pub cells : List CellValue
 

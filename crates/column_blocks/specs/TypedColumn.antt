@@ -3,9 +3,10 @@ pub use Rattle.column_blocks.specs.ColumnCells.{ColumnCells}
 use Rattle.std.specs.Prelude.{◌≡◌, ◌<◌, ◌≤◌, ◌*◌, ℕ, List, [], ◌∷◌, drop, length, map, take, Option, None, Some, slice_get}
 use Rattle.std.specs.List.{flat_map, AllByRecursion}
 use Rattle.block_summary.specs.Ranges.{column_of}
-use Rattle.block_summary.specs.Reading.{packed_type_of}
+use Rattle.cell_types.specs.declared.kind.ColumnKind.TheVariants.{Text, Number}
+use Rattle.cell_types.specs.Kind.{kind_of}
 use Rattle.block_summary.specs.declared.block.TheConstants.{BLOCK_ROWS}
-use Rattle.block_summary.specs.declared.number.PackedType.{PackedType}
+use Rattle.cell_types.specs.declared.kind.ColumnKind.{ColumnKind}
 use Rattle.cell_types.specs.Column.{ColumnOf}
 use Rattle.cell_types.specs.Value.{CellValue}
 
@@ -31,26 +32,30 @@ AreWholeBlocks size = (count : ℕ) × (size ≡ count * BLOCK_ROWS)
 abbrev pub cells_of_each : List ColumnCells → List (List CellValue)
 cells_of_each blocks = map (λ (block : ColumnCells). block.cells) blocks
 
--- the numbers of each block stand for the same, or each is one of texts
-abbrev pub AreOfType : Option PackedType → List ColumnCells → Type 0
-AreOfType type blocks = AllByRecursion (λ (block : ColumnCells). block.packed_type ≡ type) blocks
+-- each block is of the kind
+abbrev pub HaveKind : ColumnKind → List ColumnCells → Type 0
+HaveKind kind blocks = AllByRecursion (λ (block : ColumnCells). block.kind ≡ kind) blocks
 
--- blocks of these cells, whose numbers stand for that
-abbrev pub blocks_of : Option PackedType → List (List CellValue) → List ColumnCells
-blocks_of type blocks = map (λ (cells : List CellValue). record { packed_type = type; cells = cells }) blocks
+-- blocks of that kind with these cells
+abbrev pub blocks_of : ColumnKind → List (List CellValue) → List ColumnCells
+blocks_of kind blocks = map (λ (cells : List CellValue). record { kind = kind; cells = cells }) blocks
 
 -- the block of that number of a column
 abbrev pub block_in : ColumnCells → ℕ → ColumnCells
-block_in column number = record { packed_type = column.packed_type; cells = take BLOCK_ROWS (drop (number * BLOCK_ROWS) column.cells) }
+block_in column number = record { kind = column.kind; cells = take BLOCK_ROWS (drop (number * BLOCK_ROWS) column.cells) }
 
--- cells, where they are texts
-abbrev pub cells_of_texts : Option PackedType → List CellValue → Option (List CellValue)
-cells_of_texts None cells = Some cells
-cells_of_texts (Some type) cells = None
+-- cells, where they are texts, and where numbers stand for them
+abbrev pub cells_of_texts : ColumnKind → List CellValue → Option (List CellValue)
+cells_of_texts Text cells = Some cells
+cells_of_texts (Number kind) cells = None
+
+abbrev pub cells_of_numbers : ColumnKind → List CellValue → Option (List CellValue)
+cells_of_numbers Text cells = None
+cells_of_numbers (Number kind) cells = Some cells
 
 -- the cells of a column of a datatype
 abbrev pub typed_cells : ColumnOf → List CellValue → ColumnCells
-typed_cells column cells = record { packed_type = packed_type_of column.datatype; cells = cells }
+typed_cells column cells = record { kind = kind_of column.datatype; cells = cells }
 
 -- these are the cells of each column of rows
 pub record AreTyped (columns : List ColumnOf) (rows : List (List CellValue)) (typed : List ColumnCells) : Type 0 where

@@ -1,12 +1,13 @@
 //! The cells of a column in one block.
-ghost use Rattle.std.specs.Prelude.{◌≡◌, Some, None, IfOk, length, option_map, slice_index_or};
+ghost use Rattle.std.specs.Prelude.{◌≡◌, IfOk, length, option_map, slice_index_or};
 ghost use Rattle.std.specs.Option.{option_copied};
 ghost use Rattle.block_summary.specs.Ranges.{IsRangeOf};
 ghost use Rattle.cell_types.specs.Value.{null, value_view};
-ghost use Rattle.column_blocks.specs.TypedColumn.{blocks_of, cells_of_texts};
+ghost use Rattle.cell_types.specs.declared.kind.ColumnKind.TheVariants.{Number, Text};
+ghost use Rattle.column_blocks.specs.TypedColumn.{blocks_of, cells_of_numbers, cells_of_texts};
 
-use block_summary::{PackedColumn, PackedType, Range};
-use cell_types::Value;
+use block_summary::{PackedColumn, Range};
+use cell_types::{NumberKind, Value};
 use std::alloc::{AllocError, Global};
 use std::marker::Model;
 use std::rc::Rc;
@@ -15,7 +16,7 @@ use text_columns::{TextBlock, TextColumn};
 /// Numbers, and what they stand for, or texts.
 #[derive(Drop)]
 pub(crate) enum Kept {
-    Numbers(PackedType, Rc<PackedColumn>),
+    Numbers(NumberKind, Rc<PackedColumn>),
     Texts(Rc<TextBlock>),
 }
 
@@ -84,7 +85,7 @@ impl BlockCells {
     /// Returns the cells as they are packed; nothing for texts.
     #[inline(always)]
     pub fn packed(&self) -> Option<&PackedColumn>
-        ensures { option_copied result ≡ option_map (λ type. self.now.cells) self.now.packed_type }
+        ensures { option_copied result ≡ cells_of_numbers self.now.kind self.now.cells }
     {
         match &self.kept {
             Kept::Numbers(_, numbers) => Some(numbers.as_ref()),
@@ -95,7 +96,7 @@ impl BlockCells {
     /// Returns the texts and nulls; nothing for numbers.
     #[inline(always)]
     pub fn texts(&self) -> Option<TextColumn<'_>>
-        ensures { result ≡ cells_of_texts self.now.packed_type self.now.cells }
+        ensures { result ≡ cells_of_texts self.now.kind self.now.cells }
     {
         match &self.kept {
             Kept::Numbers(..) => None,
@@ -118,7 +119,7 @@ impl BlockCells {
         ensures { IfOk result (λ shared. shared ≡ self.now) }
     {
         let kept = match &self.kept {
-            Kept::Numbers(packed_type, numbers) => Kept::Numbers(*packed_type, numbers.clone()?),
+            Kept::Numbers(kind, numbers) => Kept::Numbers(*kind, numbers.clone()?),
             Kept::Texts(texts) => Kept::Texts(texts.clone()?),
         };
         Ok(BlockCells { kept })
@@ -128,14 +129,14 @@ impl BlockCells {
 /// Blocks of numbers, each for any owners.
 pub(crate) fn number_blocks(
     alloc: Global,
-    packed_type: PackedType,
+    kind: NumberKind,
     columns: Vec<PackedColumn>,
 ) -> Result<Vec<BlockCells>, AllocError>
-    ensures { IfOk result (λ blocks. blocks.items ≡ blocks_of (Some packed_type) columns.items) }
+    ensures { IfOk result (λ blocks. blocks.items ≡ blocks_of (Number kind) columns.items) }
 {
     let mut blocks = Vec::with_capacity(alloc, columns.len())?;
     for column in columns {
-        let kept = Kept::Numbers(packed_type, Rc::new(alloc, column)?);
+        let kept = Kept::Numbers(kind, Rc::new(alloc, column)?);
         blocks.push(BlockCells { kept })?;
     }
     Ok(blocks)
@@ -146,7 +147,7 @@ pub(crate) fn text_blocks(
     alloc: Global,
     columns: Vec<TextBlock>,
 ) -> Result<Vec<BlockCells>, AllocError>
-    ensures { IfOk result (λ blocks. blocks.items ≡ blocks_of None columns.items) }
+    ensures { IfOk result (λ blocks. blocks.items ≡ blocks_of Text columns.items) }
 {
     let mut blocks = Vec::with_capacity(alloc, columns.len())?;
     for column in columns {

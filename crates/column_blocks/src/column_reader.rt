@@ -1,6 +1,6 @@
 //! The cells of the columns of a table, as the rows of its file are read, part by part.
 ghost use Rattle.std.specs.Prelude.{◌≡◌, ◌<◌, ◌≤◌, ◌+◌, ◌⊎◌, [], IfOk, IfErr, OnOk, length, map};
-ghost use Rattle.block_summary.specs.Reading.{packed_type_of as packed_type_of_datatype};
+ghost use Rattle.cell_types.specs.Kind.{kind_of};
 ghost use Rattle.cell_types.specs.Column.{column_view};
 ghost use Rattle.cell_types.specs.Datatype.{datatype_view};
 ghost use Rattle.column_blocks.specs.ColumnReader.{cells_read, reader_at, with_cells};
@@ -10,8 +10,7 @@ use crate::block_cells::{number_blocks, text_blocks};
 use crate::number_reader::NumberReader;
 use crate::text_reader::TextReader;
 use crate::typed_column::TypedColumn;
-use block_summary::packed_type_of;
-use cell_types::{CellFault, Column};
+use cell_types::{CellFault, Column, ColumnKind};
 use csv_fields::Part;
 use std::alloc::{AllocError, Global};
 use std::marker::Model;
@@ -42,9 +41,9 @@ impl ColumnReader {
     fn new(alloc: Global, column: &Column, rows: usize) -> Result<ColumnReader, AllocError>
         ensures { IfOk result (λ reader. reader ≡ reader_at rows (column_view column.now) []) }
     {
-        let cells = match packed_type_of(&column.datatype) {
-            Some(packed_type) => Cells::Numbers(NumberReader::new(alloc, packed_type, rows)?),
-            None => Cells::Texts(TextReader::new(alloc, rows)?),
+        let cells = match column.datatype.kind() {
+            ColumnKind::Number(kind) => Cells::Numbers(NumberReader::new(alloc, kind, rows)?),
+            ColumnKind::Text => Cells::Texts(TextReader::new(alloc, rows)?),
         };
         Ok(ColumnReader { cells })
     }
@@ -57,8 +56,8 @@ impl ColumnReader {
         part: &Part<'_, '_>,
         col: usize,
     ) -> Result<(), CellFault>
-        requires column { packed_type_of_datatype (datatype_view column.now.datatype)
-            ≡ self.old.packed_type }
+        requires column { kind_of (datatype_view column.now.datatype)
+            ≡ self.old.kind }
         requires room { length self.old.cells + length part.now.rows ≤ self.old.rows }
         requires col { col < part.now.width }
         ensures values { OnOk result (PartHasValues (column_view column.now) col part.now.rows) }
@@ -79,17 +78,17 @@ impl ColumnReader {
     {
         match self.cells {
             Cells::Numbers(reader) => {
-                let packed_type = reader.packed_type();
-                let blocks = number_blocks(alloc, packed_type, reader.finish(alloc)?)?;
+                let kind = reader.kind();
+                let blocks = number_blocks(alloc, kind, reader.finish(alloc)?)?;
                 Ok(TypedColumn {
-                    packed_type: Some(packed_type),
+                    kind: ColumnKind::Number(kind),
                     blocks,
                 })
             }
             Cells::Texts(reader) => {
                 let blocks = text_blocks(alloc, reader.finish(alloc)?)?;
                 Ok(TypedColumn {
-                    packed_type: None,
+                    kind: ColumnKind::Text,
                     blocks,
                 })
             }

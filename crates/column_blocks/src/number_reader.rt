@@ -1,8 +1,8 @@
 //! The cells of a column of numbers, as the rows of a file are read.
-ghost use Rattle.std.specs.Prelude.{◌≡◌, ◌<◌, ◌≤◌, ◌+◌, ◌⊎◌, Some, Ok, Err, [], IfOk, IfErr, OnOk, length};
+ghost use Rattle.std.specs.Prelude.{◌≡◌, ◌<◌, ◌≤◌, ◌+◌, ◌⊎◌, Ok, Err, [], IfOk, IfErr, OnOk, length};
 ghost use Rattle.std.specs.Option.{ForSome};
-ghost use Rattle.block_summary.specs.Reading.{packed_type_of as packed_type_of_datatype};
-ghost use Rattle.block_summary.specs.Types.{cell_of, IsNumberOf};
+ghost use Rattle.cell_types.specs.Kind.{cell_of, kind_of, IsNumberOf};
+ghost use Rattle.cell_types.specs.declared.kind.ColumnKind.TheVariants.{Number};
 ghost use Rattle.block_summary.specs.declared.block.TheConstants.{BLOCK_ROWS};
 ghost use Rattle.cell_types.specs.Column.{column_view};
 ghost use Rattle.cell_types.specs.Datatype.{datatype_view};
@@ -12,8 +12,8 @@ ghost use Rattle.column_blocks.specs.Parts.{part_cells, HasCellFault, PartHasVal
 ghost use Rattle.column_blocks.specs.Readers.{numbers_with, numbers_with_cells};
 ghost use Rattle.column_blocks.specs.TypedColumn.{cells_in, AreBlocks};
 
-use block_summary::{BLOCK_ROWS, CellBuffer, PackedColumn, PackedType, read_number};
-use cell_types::{CellFault, Column};
+use block_summary::{BLOCK_ROWS, CellBuffer, PackedColumn};
+use cell_types::{CellFault, Column, NumberKind, read_number};
 use csv_fields::{Part, Raw};
 use std::alloc::{AllocError, Global};
 use std::marker::Model;
@@ -21,7 +21,7 @@ use std::marker::Model;
 /// The cells of a column of numbers that are read one after another.
 #[derive(Drop)]
 pub struct NumberReader {
-    packed_type: PackedType,
+    kind: NumberKind,
     /// How many cells there are to be.
     rows: usize,
     /// The blocks that are full.
@@ -40,49 +40,45 @@ impl Model for NumberReader {
     ghost use Rattle.column_blocks.specs.TypedColumn.{cells_in, AreFull};
 
     ghost view = { λ r. record {
-      packed_type = r.packed_type;
+      kind = r.kind;
       rows = r.rows;
       cells = cells_in r.blocks.items ++ r.buffer.cells;
     } };
 
     ghost invariant = { λ r. AreFull BLOCK_ROWS r.blocks.items
-        × (r.buffer.packed_type ≡ r.packed_type)
+        × (r.buffer.kind ≡ r.kind)
         × (r.buffer.room ≡ min r.rows BLOCK_ROWS)
         × (length r.buffer.cells ≤ BLOCK_ROWS) };
 }
 
 impl NumberReader {
     /// Returns a reader of `rows` cells, none of which is read.
-    pub fn new(
-        alloc: Global,
-        packed_type: PackedType,
-        rows: usize,
-    ) -> Result<NumberReader, AllocError>
+    pub fn new(alloc: Global, kind: NumberKind, rows: usize) -> Result<NumberReader, AllocError>
         ensures { IfOk result
-            (λ reader. reader ≡ record { packed_type = packed_type; rows = rows; cells = [] }) }
+            (λ reader. reader ≡ record { kind = kind; rows = rows; cells = [] }) }
     {
-        let buffer = CellBuffer::new(alloc, packed_type, rows.min(BLOCK_ROWS))?;
+        let buffer = CellBuffer::new(alloc, kind, rows.min(BLOCK_ROWS))?;
         Ok(NumberReader {
-            packed_type,
+            kind,
             rows,
             blocks: Vec::new(alloc),
             buffer,
         })
     }
 
-    pub fn packed_type(&self) -> PackedType
-        ensures { result ≡ self.now.packed_type }
+    pub fn kind(&self) -> NumberKind
+        ensures { result ≡ self.now.kind }
     {
-        self.packed_type
+        self.kind
     }
 
     /// Adds the cell of a number, or a null.
     #[inline(always)]
     fn push(&mut self, alloc: Global, number: Option<i64>) -> Result<(), AllocError>
         requires room { length self.old.cells < self.old.rows }
-        requires number { ForSome number (IsNumberOf self.old.packed_type) }
+        requires number { ForSome number (IsNumberOf self.old.kind) }
         ensures { OnOk result
-            (self.new ≡ numbers_with self.old (cell_of self.old.packed_type number)) }
+            (self.new ≡ numbers_with self.old (cell_of self.old.kind number)) }
     {
         if self.buffer.len() == BLOCK_ROWS {
             self.blocks.push(self.buffer.pack(alloc)?)?;
@@ -95,8 +91,8 @@ impl NumberReader {
     /// Reads the field of the next row.
     #[inline(always)]
     fn read(&mut self, alloc: Global, column: &Column, raw: Raw<'_>) -> Result<(), CellFault>
-        requires column { packed_type_of_datatype (datatype_view column.now.datatype)
-            ≡ Some self.old.packed_type }
+        requires column { kind_of (datatype_view column.now.datatype)
+            ≡ Number self.old.kind }
         requires room { length self.old.cells < self.old.rows }
         ensures value { OnOk result (HasValue (column_view column.now) (raw_view raw.entry)) }
         ensures cells { OnOk result (self.new ≡ numbers_with self.old
@@ -104,7 +100,7 @@ impl NumberReader {
         ensures fault { IfErr result (λ e. (e ≡ CellFault.NoMemory)
             ⊎ (value_in (column_view column.now, raw_view raw.entry) ≡ Err e)) }
     {
-        let number = field_number(alloc, column, self.packed_type, raw)?;
+        let number = field_number(alloc, column, self.kind, raw)?;
         self.push(alloc, number)?;
         Ok(())
     }
@@ -117,8 +113,8 @@ impl NumberReader {
         part: &Part<'_, '_>,
         col: usize,
     ) -> Result<(), CellFault>
-        requires column { packed_type_of_datatype (datatype_view column.now.datatype)
-            ≡ Some self.old.packed_type }
+        requires column { kind_of (datatype_view column.now.datatype)
+            ≡ Number self.old.kind }
         requires room { length self.old.cells + length part.now.rows ≤ self.old.rows }
         requires col { col < part.now.width }
         ensures values { OnOk result (PartHasValues (column_view column.now) col part.now.rows) }
@@ -154,19 +150,19 @@ impl NumberReader {
 fn field_number(
     alloc: Global,
     column: &Column,
-    packed_type: PackedType,
+    kind: NumberKind,
     raw: Raw<'_>,
 ) -> Result<Option<i64>, CellFault>
-    requires { packed_type_of_datatype (datatype_view column.now.datatype) ≡ Some packed_type }
+    requires { kind_of (datatype_view column.now.datatype) ≡ Number kind }
     ensures value { IfOk result (λ number.
-        value_in (column_view column.now, raw_view raw.entry) ≡ Ok (cell_of packed_type number)) }
-    ensures number { IfOk result (λ number. ForSome number (IsNumberOf packed_type)) }
+        value_in (column_view column.now, raw_view raw.entry) ≡ Ok (cell_of kind number)) }
+    ensures number { IfOk result (λ number. ForSome number (IsNumberOf kind)) }
     ensures fault { IfErr result (λ e. (e ≡ CellFault.NoMemory)
         ⊎ (value_in (column_view column.now, raw_view raw.entry) ≡ Err e)) }
 {
     if !raw.quoted {
-        return read_number(alloc, column, packed_type, raw.bytes);
+        return read_number(alloc, column, kind, raw.bytes);
     }
     let text = raw.text(alloc)?;
-    read_number(alloc, column, packed_type, text.as_str())
+    read_number(alloc, column, kind, text.as_str())
 }

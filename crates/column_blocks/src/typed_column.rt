@@ -1,14 +1,14 @@
 //! The columns of a table.
-ghost use Rattle.std.specs.Prelude.{◌≡◌, ◌<◌, ◌*◌, ◌++◌, IfOk, OnOk, length, take, drop, option_map, slice_index_or};
+ghost use Rattle.std.specs.Prelude.{◌≡◌, ◌<◌, ◌*◌, ◌++◌, IfOk, OnOk, length, take, drop, slice_index_or};
 ghost use Rattle.std.specs.Option.{option_copied};
 ghost use Rattle.block_summary.specs.Ranges.{IsRangeOf};
 ghost use Rattle.block_summary.specs.declared.block.TheConstants.{BLOCK_ROWS};
 ghost use Rattle.cell_types.specs.Value.{null, value_view};
-ghost use Rattle.column_blocks.specs.TypedColumn.{block_in, cells_of_texts, AreWholeBlocks};
+ghost use Rattle.column_blocks.specs.TypedColumn.{block_in, cells_of_numbers, cells_of_texts, AreWholeBlocks};
 
 use crate::block_cells::BlockCells;
-use block_summary::{BLOCK_ROWS, PackedColumn, PackedType, Range};
-use cell_types::Value;
+use block_summary::{BLOCK_ROWS, PackedColumn, Range};
+use cell_types::{ColumnKind, Value};
 use std::alloc::{AllocError, Global};
 use std::marker::Model;
 use text_columns::TextColumn;
@@ -16,8 +16,7 @@ use text_columns::TextColumn;
 /// The cells of a column of a table, block by block.
 #[derive(Drop)]
 pub struct TypedColumn {
-    /// What the numbers of the cells stand for, if they are no texts.
-    pub(crate) packed_type: Option<PackedType>,
+    pub(crate) kind: ColumnKind,
     pub(crate) blocks: Vec<BlockCells>,
 }
 
@@ -27,21 +26,21 @@ impl Model for TypedColumn {
     ghost Value = { ColumnCells };
 
     ghost use Rattle.block_summary.specs.declared.block.TheConstants.{BLOCK_ROWS};
-    ghost use Rattle.column_blocks.specs.TypedColumn.{cells_in, cells_of_each, AreBlocks, AreOfType};
+    ghost use Rattle.column_blocks.specs.TypedColumn.{cells_in, cells_of_each, AreBlocks, HaveKind};
 
     ghost view = { λ c. record {
-      packed_type = c.packed_type;
+      kind = c.kind;
       cells = cells_in (cells_of_each c.blocks.items);
     } };
 
     ghost invariant = { λ c. AreBlocks BLOCK_ROWS (cells_of_each c.blocks.items)
-        × AreOfType c.packed_type c.blocks.items };
+        × HaveKind c.kind c.blocks.items };
 }
 
 impl TypedColumn {
     /// Puts the cells of another column after these, which fill their blocks.
     pub fn append(&mut self, after: TypedColumn) -> Result<(), AllocError>
-        requires kind { after.packed_type ≡ self.old.packed_type }
+        requires kind { after.kind ≡ self.old.kind }
         requires whole { AreWholeBlocks (length self.old.cells) }
         ensures { OnOk result
             (self.new ≡ record self.old { cells = self.old.cells ++ after.cells }) }
@@ -64,8 +63,8 @@ impl TypedColumn {
     /// Returns the cells of the block of a number, counted from 0, as they are packed; nothing for texts.
     pub fn packed(&self, number: usize) -> Option<&PackedColumn>
         requires { number * BLOCK_ROWS < length self.now.cells }
-        ensures { option_copied result ≡ option_map (λ type.
-            take BLOCK_ROWS (drop (number * BLOCK_ROWS) self.now.cells)) self.now.packed_type }
+        ensures { option_copied result ≡ cells_of_numbers self.now.kind
+            (take BLOCK_ROWS (drop (number * BLOCK_ROWS) self.now.cells)) }
     {
         self.blocks[number].packed()
     }
@@ -73,7 +72,7 @@ impl TypedColumn {
     /// Returns the texts and nulls of the block of a number, counted from 0; nothing for numbers.
     pub fn texts(&self, number: usize) -> Option<TextColumn<'_>>
         requires { number * BLOCK_ROWS < length self.now.cells }
-        ensures { result ≡ cells_of_texts self.now.packed_type
+        ensures { result ≡ cells_of_texts self.now.kind
             (take BLOCK_ROWS (drop (number * BLOCK_ROWS) self.now.cells)) }
     {
         self.blocks[number].texts()

@@ -11,7 +11,6 @@ use cell_types::{CellFault, Column, Value};
 use csv_fields::cell_value;
 use csv_index::Raw;
 use csv_shapes::line_after;
-use reply_values::push_json_value;
 use std::collections::BTreeMap;
 use table_store::LoadFault;
 
@@ -75,7 +74,7 @@ enum KeyPart {
 fn push_key_value(line: &mut Line, value: Value<'_>, part: KeyPart) {
     let mut text = Vec::new(line.alloc);
     let pushed = match part {
-        KeyPart::WholeValues => push_json_value(&mut text, &value),
+        KeyPart::WholeValues => reply_values::push_value::<true>(&mut text, &value),
         _ => push_value(line.alloc, &mut text, &value),
     };
     line.is_short |= pushed.is_err();

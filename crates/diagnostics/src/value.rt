@@ -6,7 +6,6 @@ ghost use Rattle.diagnostics.specs.Value.{shown_value};
 
 use crate::text::quoted;
 use cell_types::Value;
-use reply_values::{push_bool, push_date, push_decimal, push_integer};
 use std::alloc::{AllocError, Global};
 
 /// Appends a text as a JSON text.
@@ -23,10 +22,9 @@ pub fn push_value(alloc: Global, out: &mut Vec<u8>, value: &Value<'_>) -> Result
 {
     match value {
         Value::Null => out.extend_from_slice(b"null"),
-        Value::Int(number) => push_integer(out, *number),
         Value::Text(text) => push_quoted(alloc, out, text.as_str()),
-        Value::Bool(truth) => push_bool(out, *truth),
-        Value::Date(date) => push_date(out, *date),
-        Value::Decimal(millionths) => push_decimal(out, *millionths),
+        Value::Int(_) | Value::Bool(_) | Value::Date(_) | Value::Decimal(_) => {
+            reply_values::push_value::<false>(out, value)
+        }
     }
 }

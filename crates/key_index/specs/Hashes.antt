@@ -5,7 +5,7 @@ use Rattle.std.specs.Hash.{HashWrites, bool, i64, i128}
 use Rattle.std.specs.Hash.FoldHasher.{finish, initial, write}
 use Rattle.std.specs.List.{fold}
 use Rattle.std.specs.declared.hash.FoldHasher.{FoldHasher}
-use Rattle.block_summary.specs.Types.{day_number}
+use Rattle.cell_types.specs.Kind.{day_number}
 use Rattle.cell_types.specs.Value.{CellValue, null, integer, text, boolean, date, decimal}
 
 -- what a value writes: a null nothing, a text its bytes, any other value its number

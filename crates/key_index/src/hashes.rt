@@ -3,8 +3,7 @@ ghost use Rattle.std.specs.Prelude.{◌≡◌, map};
 ghost use Rattle.cell_types.specs.Value.{value_view};
 ghost use Rattle.key_index.specs.Hashes.{hash_cell, key_hash};
 
-use block_summary::day_number;
-use cell_types::Value;
+use cell_types::{Value, day_number};
 use std::hash::{FoldHasher, Hasher};
 
 /// Writes a value into a hasher.

@@ -3,7 +3,7 @@ use Rattle.std.proofs.Common.{◌≡◌, ◌||◌, ℕ, Bool, true, false, Some,
 use Rattle.std.specs.Prelude.{ℤ, pos, ◌<◌, option_map, FitsSigned}
 use Rattle.std.specs.Int.{w64}
 use Rattle.typed_trees.specs.declared.operator.ArithmeticOperator.{ArithmeticOperator}
-use Rattle.typed_trees.specs.declared.operator.ComparisonOperator.{ComparisonOperator}
+use Rattle.cell_types.specs.declared.comparison.ComparisonOperator.{ComparisonOperator}
 use Rattle.row_eval.specs.declared.truth.Truth.{Truth}
 use Rattle.row_eval.specs.Outcome.{computed, operation}
 use Rattle.number_kernels.specs.declared.arithmetic.ExactOperator.{ExactOperator}

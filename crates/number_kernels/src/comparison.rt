@@ -11,9 +11,9 @@ ghost use Rattle.number_kernels.specs.Operands.{operand_lane, IsLong};
 use crate::fallback::Fallback;
 use crate::numbers::Numbers;
 use crate::operand::Operand;
+use cell_types::ComparisonOperator;
 use row_eval::{Truth, truth_of};
 use std::alloc::Global;
-use typed_trees::ComparisonOperator;
 
 /// Returns true if a comparison holds between two numbers, each with a mark that it is null.
 #[inline(always)]

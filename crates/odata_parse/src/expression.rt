@@ -17,9 +17,10 @@ use crate::list::{Item, enclosed};
 use crate::literal::{literal_of, word_literal};
 use crate::tree::{BinaryOperator, Expr, Literal, LogicOperator, UnaryOperator};
 use crate::whole::whole_item;
+use cell_types::ComparisonOperator;
 use odata_lex::{Token, TokenKind};
 use std::alloc::Global;
-use typed_trees::{ArithmeticOperator, ComparisonOperator};
+use typed_trees::ArithmeticOperator;
 
 /// The level of a whole expression.
 pub(crate) const TOP: usize = 8;

@@ -4,7 +4,7 @@ ghost use Rattle.std.specs.Prelude.{◌≡◌, ◌≢◌, ◌↔◌, IsTrue, IfS
 ghost use Rattle.odata_parse.specs.Format.{same_text};
 ghost use Rattle.odata_parse.specs.Keyword.{lower, logic_text, comparison_text, arithmetic_text, operator_text, unary_function_text, binary_function_text, method_text};
 ghost use Rattle.odata_parse.specs.declared.tree.LogicOperator.{LogicOperator};
-ghost use Rattle.typed_trees.specs.declared.operator.ComparisonOperator.{ComparisonOperator};
+ghost use Rattle.cell_types.specs.declared.comparison.ComparisonOperator.{ComparisonOperator};
 ghost use Rattle.typed_trees.specs.declared.operator.ArithmeticOperator.{ArithmeticOperator};
 ghost use Rattle.odata_parse.specs.declared.tree.BinaryOperator.{BinaryOperator};
 ghost use Rattle.odata_parse.specs.declared.tree.UnaryFunction.{UnaryFunction};
@@ -14,7 +14,8 @@ ghost use Rattle.odata_parse.specs.declared.tree.AggregationMethod.{AggregationM
 use crate::tree::{
     AggregationMethod, BinaryFunction, BinaryOperator, LogicOperator, UnaryFunction,
 };
-use typed_trees::{ArithmeticOperator, ComparisonOperator};
+use cell_types::ComparisonOperator;
+use typed_trees::ArithmeticOperator;
 
 /// Returns true if a text is a keyword in any ASCII case.
 pub(crate) fn spells(text: &str, keyword: &str) -> bool

@@ -1,8 +1,9 @@
 //! The trees of OData expressions and query options (OData 4.01 URL Conventions, sections 5.1.1 and 5.1.2; OData Data Aggregation
 //! 4.0, section 3). Parentheses leave no node: the shape of a tree says what stands together.
 
+pub use cell_types::ComparisonOperator;
 use jiff_core::civil::Date;
-pub use typed_trees::{ArithmeticOperator, ComparisonOperator};
+pub use typed_trees::ArithmeticOperator;
 
 /// A value written in an expression (section 5.1.1.14.1).
 #[derive(Drop)]

@@ -12,58 +12,63 @@ use Rattle.odata_parse.specs.Tree.{KeyOf, KeyPairOf, LiteralOf, key_pair, named,
 use Rattle.odata_types.specs.declared.fault.TypeFault.{TypeFault}
 use Rattle.odata_types.specs.declared.fault.TypeFault.TheVariants.{BadKey}
 use Rattle.odata_types.specs.declared.types.ColumnType.{ColumnType}
-use Rattle.odata_types.specs.declared.types.ColumnType.TheVariants as column
+use Rattle.cell_types.specs.declared.kind.ColumnKind.{ColumnKind}
+use Rattle.cell_types.specs.declared.kind.ColumnKind.TheVariants.{Text, Number}
+use Rattle.cell_types.specs.declared.kind.NumberKind.TheVariants as numbers
 use Rattle.typed_trees.specs.declared.tree.TheConstants.{MILLIONTHS}
 use Rattle.odata_types.specs.declared.types.TheConstants.{MOST_SIZE}
 use Rattle.odata_types.specs.Columns.{InputOf}
 use Rattle.odata_types.specs.Result.{◌>>=◌}
-use Rattle.odata_query.specs.Key.{value_in_place, key_typing, key_value, named_value, named_value_in, named_values, scaled_value, literal_in, value_of_type, value_under}
-use Rattle.odata_query.specs.KeyValues.{AnswersOnly, AreNamed, IsKeyOf, IsNamedAt, IsUnder, IsValueAt, IsValueIn}
+use Rattle.odata_query.specs.Key.{key_typing, key_value, kind_value, literal_in, named_value, named_value_in, named_values, scaled_value, value_in_place, value_of_type, value_under}
+use Rattle.odata_query.specs.KeyValues.{AnswersOnly, AreNamed, IsKeyOf, IsKindValue, IsNamedAt, IsUnder, IsValueAt, IsValueIn}
 
 -- the same answer to another relation that gives the same
 pub other : {X : Type 0} (P Q : X → Type 0) (r : Result X TypeFault) → ((x : X) → P x → Q x) → ((x : X) → Q x → P x) → AnswersOnly P r → AnswersOnly Q r
 other P Q (Ok x) to from a = (to x a.0, (λ y q. a.1 y (from y q)))
 other P Q (Err e) to from a = (a.0, (λ y q. a.1 y (from y q)))
 
-scaled_answers : (bound : ℕ) (n : ℤ) → AnswersOnly (IsValueIn (column.Decimal bound) (tree.number n)) (scaled_value n)
-scaled_answers bound n = by (nat_le (unsigned_abs n * MILLIONTHS) MOST_SIZE) refl
+scaled_answers : (n : ℤ) → AnswersOnly (IsKindValue (Number numbers.Decimal) (tree.number n)) (scaled_value n)
+scaled_answers n = by (nat_le (unsigned_abs n * MILLIONTHS) MOST_SIZE) refl
   where
     by : (c : Bool) → nat_le (unsigned_abs n * MILLIONTHS) MOST_SIZE ≡ c
-        → AnswersOnly (IsValueIn (column.Decimal bound) (tree.number n)) (if c then Ok (value.decimal (n *ℤ pos MILLIONTHS)) else Err BadKey)
+        → AnswersOnly (IsKindValue (Number numbers.Decimal) (tree.number n)) (if c then Ok (value.decimal (n *ℤ pos MILLIONTHS)) else Err BadKey)
     by true e = ((leb-true (unsigned_abs n * MILLIONTHS) MOST_SIZE e, refl), (λ y h. h.1))
     by false e = (refl, (λ y h. let other_way = le-leb (unsigned_abs n * MILLIONTHS) MOST_SIZE h.0 in absurd (cc)))
 
+kind_answers : (kind : ColumnKind) (literal : LiteralOf) → AnswersOnly (IsKindValue kind literal) (kind_value kind literal)
+kind_answers (Number numbers.Integer) tree.null = (refl, (λ y h. h))
+kind_answers (Number numbers.Integer) (tree.boolean b) = (refl, (λ y h. h))
+kind_answers (Number numbers.Integer) (tree.number n) = (refl, (λ y h. h))
+kind_answers (Number numbers.Integer) (tree.text t) = (refl, (λ y h. h))
+kind_answers (Number numbers.Integer) (tree.date y m d) = (refl, (λ y h. h))
+kind_answers (Number numbers.Integer) (tree.decimal n) = (refl, (λ y h. h))
+kind_answers Text tree.null = (refl, (λ y h. h))
+kind_answers Text (tree.boolean b) = (refl, (λ y h. h))
+kind_answers Text (tree.number n) = (refl, (λ y h. h))
+kind_answers Text (tree.text t) = (refl, (λ y h. h))
+kind_answers Text (tree.date y m d) = (refl, (λ y h. h))
+kind_answers Text (tree.decimal n) = (refl, (λ y h. h))
+kind_answers (Number numbers.Boolean) tree.null = (refl, (λ y h. h))
+kind_answers (Number numbers.Boolean) (tree.boolean b) = (refl, (λ y h. h))
+kind_answers (Number numbers.Boolean) (tree.number n) = (refl, (λ y h. h))
+kind_answers (Number numbers.Boolean) (tree.text t) = (refl, (λ y h. h))
+kind_answers (Number numbers.Boolean) (tree.date y m d) = (refl, (λ y h. h))
+kind_answers (Number numbers.Boolean) (tree.decimal n) = (refl, (λ y h. h))
+kind_answers (Number numbers.Date) tree.null = (refl, (λ y h. h))
+kind_answers (Number numbers.Date) (tree.boolean b) = (refl, (λ y h. h))
+kind_answers (Number numbers.Date) (tree.number n) = (refl, (λ y h. h))
+kind_answers (Number numbers.Date) (tree.text t) = (refl, (λ y h. h))
+kind_answers (Number numbers.Date) (tree.date y m d) = (refl, (λ y h. h))
+kind_answers (Number numbers.Date) (tree.decimal n) = (refl, (λ y h. h))
+kind_answers (Number numbers.Decimal) tree.null = (refl, (λ y h. h))
+kind_answers (Number numbers.Decimal) (tree.boolean b) = (refl, (λ y h. h))
+kind_answers (Number numbers.Decimal) (tree.number n) = scaled_answers n
+kind_answers (Number numbers.Decimal) (tree.text t) = (refl, (λ y h. h))
+kind_answers (Number numbers.Decimal) (tree.date y m d) = (refl, (λ y h. h))
+kind_answers (Number numbers.Decimal) (tree.decimal n) = (refl, (λ y h. h))
+
 pub value_answers : (type : ColumnType) (literal : LiteralOf) → AnswersOnly (IsValueIn type literal) (key_value type literal)
-value_answers (column.Integer bound) tree.null = (refl, (λ y h. h))
-value_answers (column.Integer bound) (tree.boolean b) = (refl, (λ y h. h))
-value_answers (column.Integer bound) (tree.number n) = (refl, (λ y h. h))
-value_answers (column.Integer bound) (tree.text t) = (refl, (λ y h. h))
-value_answers (column.Integer bound) (tree.date y m d) = (refl, (λ y h. h))
-value_answers (column.Integer bound) (tree.decimal n) = (refl, (λ y h. h))
-value_answers column.Text tree.null = (refl, (λ y h. h))
-value_answers column.Text (tree.boolean b) = (refl, (λ y h. h))
-value_answers column.Text (tree.number n) = (refl, (λ y h. h))
-value_answers column.Text (tree.text t) = (refl, (λ y h. h))
-value_answers column.Text (tree.date y m d) = (refl, (λ y h. h))
-value_answers column.Text (tree.decimal n) = (refl, (λ y h. h))
-value_answers column.Boolean tree.null = (refl, (λ y h. h))
-value_answers column.Boolean (tree.boolean b) = (refl, (λ y h. h))
-value_answers column.Boolean (tree.number n) = (refl, (λ y h. h))
-value_answers column.Boolean (tree.text t) = (refl, (λ y h. h))
-value_answers column.Boolean (tree.date y m d) = (refl, (λ y h. h))
-value_answers column.Boolean (tree.decimal n) = (refl, (λ y h. h))
-value_answers column.Date tree.null = (refl, (λ y h. h))
-value_answers column.Date (tree.boolean b) = (refl, (λ y h. h))
-value_answers column.Date (tree.number n) = (refl, (λ y h. h))
-value_answers column.Date (tree.text t) = (refl, (λ y h. h))
-value_answers column.Date (tree.date y m d) = (refl, (λ y h. h))
-value_answers column.Date (tree.decimal n) = (refl, (λ y h. h))
-value_answers (column.Decimal bound) tree.null = (refl, (λ y h. h))
-value_answers (column.Decimal bound) (tree.boolean b) = (refl, (λ y h. h))
-value_answers (column.Decimal bound) (tree.number n) = scaled_answers bound n
-value_answers (column.Decimal bound) (tree.text t) = (refl, (λ y h. h))
-value_answers (column.Decimal bound) (tree.date y m d) = (refl, (λ y h. h))
-value_answers (column.Decimal bound) (tree.decimal n) = (refl, (λ y h. h))
+value_answers type literal = kind_answers type.kind literal
 
 -- ---- a literal alone
 

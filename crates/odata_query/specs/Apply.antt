@@ -10,8 +10,10 @@ use Rattle.odata_parse.specs.Tree.{AggregateItemOf, aggregated, counted, Transfo
 use Rattle.odata_types.specs.declared.fault.TypeFault.{TypeFault}
 use Rattle.odata_types.specs.declared.fault.TypeFault.TheVariants.{UnknownName, Mismatch, AliasTaken}
 use Rattle.odata_types.specs.declared.types.ColumnType.{ColumnType}
-use Rattle.odata_types.specs.declared.types.ColumnType.TheVariants as column
-use Rattle.odata_types.specs.Columns.{InputOf}
+use Rattle.cell_types.specs.declared.kind.ColumnKind.{ColumnKind}
+use Rattle.cell_types.specs.declared.kind.ColumnKind.TheVariants.{Number}
+use Rattle.cell_types.specs.declared.kind.NumberKind.TheVariants as numbers
+use Rattle.odata_types.specs.Columns.{of_size, InputOf}
 use Rattle.odata_types.specs.Result.{◌>>=◌}
 use Rattle.odata_types.specs.Typing.{filter_typing, place_of, within}
 use Rattle.odata_query.specs.declared.aggregate.Aggregate.{Aggregate}
@@ -24,17 +26,24 @@ use Rattle.odata_query.specs.Selection.{has_name}
 -- ---- items (section 3.2.1)
 
 -- a sum of numbers: an input has at most 2 to the 30 rows
+abbrev pub kind_sum : ℕ → ColumnKind → ℕ → Result (Aggregate × ColumnType) TypeFault
+kind_sum place (Number numbers.Integer) size = within (size * MOST_ROWS) (SumOfIntegers place, of_size (Number numbers.Integer) (size * MOST_ROWS))
+kind_sum place (Number numbers.Decimal) size = within (size * MOST_ROWS) (SumOfDecimals place, of_size (Number numbers.Decimal) (size * MOST_ROWS))
+kind_sum place kind size = Err Mismatch
+
 abbrev pub sum_typing : ℕ → ColumnType → Result (Aggregate × ColumnType) TypeFault
-sum_typing place (column.Integer bound) = within (bound * MOST_ROWS) (SumOfIntegers place, column.Integer (bound * MOST_ROWS))
-sum_typing place (column.Decimal bound) = within (bound * MOST_ROWS) (SumOfDecimals place, column.Decimal (bound * MOST_ROWS))
-sum_typing place type = Err Mismatch
+sum_typing place type = kind_sum place type.kind type.size
+
+-- a number of rows
+abbrev pub count_type : ColumnType
+count_type = of_size (Number numbers.Integer) COUNT_SIZE
 
 -- what a method computes of a column, and its type
 abbrev pub method_typing : AggregationMethod → ℕ → ColumnType → Result (Aggregate × ColumnType) TypeFault
 method_typing method.Sum place type = sum_typing place type
 method_typing method.Min place type = Ok (Min place, type)
 method_typing method.Max place type = Ok (Max place, type)
-method_typing method.CountDistinct place type = Ok (CountDistinct place, column.Integer COUNT_SIZE)
+method_typing method.CountDistinct place type = Ok (CountDistinct place, count_type)
 
 abbrev pub method_at : AggregationMethod → ℕ → Option InputOf → Result (Aggregate × ColumnType) TypeFault
 method_at m place None = Err UnknownName
@@ -53,7 +62,7 @@ free_typing inputs earlier made alias =
 
 abbrev pub item_typing : List InputOf → List ItemOf → AggregateItemOf → Result ItemOf TypeFault
 item_typing inputs earlier (aggregated name m alias) = computed_typing inputs name m >>= λ made. free_typing inputs earlier made alias
-item_typing inputs earlier (counted alias) = free_typing inputs earlier (Count, column.Integer COUNT_SIZE) alias
+item_typing inputs earlier (counted alias) = free_typing inputs earlier (Count, count_type) alias
 
 -- items one after another, after earlier ones
 abbrev pub items_typing : List InputOf → List ItemOf → List AggregateItemOf → Result (List ItemOf) TypeFault

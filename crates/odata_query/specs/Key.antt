@@ -8,7 +8,9 @@ use Rattle.odata_parse.specs.Tree.{LiteralOf, KeyOf, KeyPairOf, key_pair, single
 use Rattle.odata_types.specs.declared.fault.TypeFault.{TypeFault}
 use Rattle.odata_types.specs.declared.fault.TypeFault.TheVariants.{BadKey}
 use Rattle.odata_types.specs.declared.types.ColumnType.{ColumnType}
-use Rattle.odata_types.specs.declared.types.ColumnType.TheVariants as column
+use Rattle.cell_types.specs.declared.kind.ColumnKind.{ColumnKind}
+use Rattle.cell_types.specs.declared.kind.ColumnKind.TheVariants.{Text, Number}
+use Rattle.cell_types.specs.declared.kind.NumberKind.TheVariants as numbers
 use Rattle.typed_trees.specs.declared.tree.TheConstants.{MILLIONTHS}
 use Rattle.odata_types.specs.declared.types.TheConstants.{MOST_SIZE}
 use Rattle.odata_types.specs.Columns.{InputOf}
@@ -18,15 +20,18 @@ use Rattle.odata_types.specs.Result.{◌>>=◌}
 abbrev pub scaled_value : ℤ → Result CellValue TypeFault
 scaled_value n = if nat_le (unsigned_abs n * MILLIONTHS) MOST_SIZE then Ok (value.decimal (n *ℤ pos MILLIONTHS)) else Err BadKey
 
--- a literal in a column of the key: one of the column's type, and not null
+-- a literal in a column of the key: one of the column's kind, and not null
+abbrev pub kind_value : ColumnKind → LiteralOf → Result CellValue TypeFault
+kind_value (Number numbers.Integer) (tree.number n) = Ok (value.integer n)
+kind_value Text (tree.text t) = Ok (value.text t)
+kind_value (Number numbers.Boolean) (tree.boolean b) = Ok (value.boolean b)
+kind_value (Number numbers.Date) (tree.date y m d) = Ok (value.date y m d)
+kind_value (Number numbers.Decimal) (tree.decimal n) = Ok (value.decimal n)
+kind_value (Number numbers.Decimal) (tree.number n) = scaled_value n
+kind_value kind v = Err BadKey
+
 abbrev pub key_value : ColumnType → LiteralOf → Result CellValue TypeFault
-key_value (column.Integer bound) (tree.number n) = Ok (value.integer n)
-key_value column.Text (tree.text t) = Ok (value.text t)
-key_value column.Boolean (tree.boolean b) = Ok (value.boolean b)
-key_value column.Date (tree.date y m d) = Ok (value.date y m d)
-key_value (column.Decimal bound) (tree.decimal n) = Ok (value.decimal n)
-key_value (column.Decimal bound) (tree.number n) = scaled_value n
-key_value type v = Err BadKey
+key_value type v = kind_value type.kind v
 
 -- the name and the value of a pair
 abbrev pub is_under : List ℕ → KeyPairOf → Bool

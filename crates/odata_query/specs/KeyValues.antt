@@ -7,21 +7,26 @@ use Rattle.odata_parse.specs.Tree.{KeyOf, KeyPairOf, LiteralOf, key_pair, named,
 use Rattle.odata_types.specs.declared.fault.TypeFault.{TypeFault}
 use Rattle.odata_types.specs.declared.fault.TypeFault.TheVariants.{BadKey}
 use Rattle.odata_types.specs.declared.types.ColumnType.{ColumnType}
-use Rattle.odata_types.specs.declared.types.ColumnType.TheVariants as column
+use Rattle.cell_types.specs.declared.kind.ColumnKind.{ColumnKind}
+use Rattle.cell_types.specs.declared.kind.ColumnKind.TheVariants.{Text, Number}
+use Rattle.cell_types.specs.declared.kind.NumberKind.TheVariants as numbers
 use Rattle.typed_trees.specs.declared.tree.TheConstants.{MILLIONTHS}
 use Rattle.odata_types.specs.declared.types.TheConstants.{MOST_SIZE}
 use Rattle.odata_types.specs.Columns.{InputOf}
 use Rattle.odata_query.specs.Key.{key_typing}
 
--- a literal has this value in a column of the type: that of a literal of the type, or the millionths of a whole number
+-- a literal has this value in a column of the kind: that of a literal of the kind, or the millionths of a whole number
+abbrev pub IsKindValue : ColumnKind → LiteralOf → CellValue → Type 0
+IsKindValue (Number numbers.Integer) (tree.number n) v = v ≡ value.integer n
+IsKindValue Text (tree.text t) v = v ≡ value.text t
+IsKindValue (Number numbers.Boolean) (tree.boolean b) v = v ≡ value.boolean b
+IsKindValue (Number numbers.Date) (tree.date y m d) v = v ≡ value.date y m d
+IsKindValue (Number numbers.Decimal) (tree.decimal n) v = v ≡ value.decimal n
+IsKindValue (Number numbers.Decimal) (tree.number n) v = (unsigned_abs n * MILLIONTHS ≤ MOST_SIZE) × (v ≡ value.decimal (n *ℤ pos MILLIONTHS))
+IsKindValue kind literal v = ⊥
+
 abbrev pub IsValueIn : ColumnType → LiteralOf → CellValue → Type 0
-IsValueIn (column.Integer bound) (tree.number n) v = v ≡ value.integer n
-IsValueIn column.Text (tree.text t) v = v ≡ value.text t
-IsValueIn column.Boolean (tree.boolean b) v = v ≡ value.boolean b
-IsValueIn column.Date (tree.date y m d) v = v ≡ value.date y m d
-IsValueIn (column.Decimal bound) (tree.decimal n) v = v ≡ value.decimal n
-IsValueIn (column.Decimal bound) (tree.number n) v = (unsigned_abs n * MILLIONTHS ≤ MOST_SIZE) × (v ≡ value.decimal (n *ℤ pos MILLIONTHS))
-IsValueIn type literal v = ⊥
+IsValueIn type literal v = IsKindValue type.kind literal v
 
 -- the literal has this value in the column with the number
 pub record IsValueAt (inputs : List InputOf) (place : ℕ) (literal : LiteralOf) (v : CellValue) : Type 0 where

@@ -9,27 +9,32 @@ use Rattle.odata_parse.specs.Tree.{AggregateItemOf, KeyOf, LiteralOf, Transforma
 use Rattle.odata_types.specs.declared.fault.TypeFault.{TypeFault}
 use Rattle.odata_types.specs.declared.fault.TypeFault.TheVariants.{AliasTaken, BadKey, Mismatch, TooLarge, UnknownName}
 use Rattle.odata_types.specs.declared.types.ColumnType.{ColumnType}
-use Rattle.odata_types.specs.declared.types.ColumnType.TheVariants as column
+use Rattle.cell_types.specs.declared.kind.ColumnKind.{ColumnKind}
+use Rattle.cell_types.specs.declared.kind.ColumnKind.TheVariants.{Text, Number}
+use Rattle.cell_types.specs.declared.kind.NumberKind.TheVariants as numbers
 use Rattle.odata_types.specs.declared.types.TheConstants.{COLUMN_SIZE}
-use Rattle.odata_types.specs.Columns.{InputOf}
+use Rattle.odata_types.specs.Columns.{of_size, InputOf}
 use Rattle.typed_trees.specs.TypedTree.{truth_column}
 use Rattle.odata_query.specs.declared.aggregate.Aggregate.{Aggregate}
 use Rattle.odata_query.specs.declared.aggregate.Aggregate.TheVariants.{Count, SumOfIntegers, SumOfDecimals, Min, Max, CountDistinct}
 use Rattle.odata_query.specs.declared.aggregate.TheConstants.{COUNT_SIZE}
 use Rattle.odata_query.specs.Aggregate.{NamedAggregateOf, TypedTransformationOf, aggregate_rows, filter_rows, group_rows}
-use Rattle.odata_query.specs.Apply.{apply_typing}
+use Rattle.odata_query.specs.Apply.{apply_typing, count_type}
 use Rattle.odata_query.specs.Key.{key_typing}
 
 abbrev pub input : List ℕ → ColumnType → InputOf
 input name type = record { name = name; column_type = type }
 
+abbrev pub of : ColumnKind → ColumnType
+of kind = of_size kind COLUMN_SIZE
+
 abbrev pub inputs : List InputOf
 inputs =
-    input (codes "Id") (column.Integer COLUMN_SIZE)
-    ∷ input (codes "Name") column.Text
-    ∷ input (codes "Open") column.Boolean
-    ∷ input (codes "Since") column.Date
-    ∷ input (codes "Price") (column.Decimal COLUMN_SIZE)
+    input (codes "Id") (of (Number numbers.Integer))
+    ∷ input (codes "Name") (of Text)
+    ∷ input (codes "Open") (of (Number numbers.Boolean))
+    ∷ input (codes "Since") (of (Number numbers.Date))
+    ∷ input (codes "Price") (of (Number numbers.Decimal))
     ∷ []
 
 -- ---- keys (OData 4.01 URL Conventions, section 4.3.1)
@@ -119,13 +124,13 @@ pub record WorkedTransformations : Type 0 where
   pub filter_number : FailsToApply (filter_by (tree.name (codes "Id")) ∷ []) Mismatch
   pub filter_unknown : FailsToApply (filter_by (tree.name (codes "Nobody")) ∷ []) UnknownName
   -- `aggregate(Id with sum as A)` and the like: a sum is of 2 to the 30 numbers at most
-  pub sum_of_integers : Aggregates (item (codes "Id") method.Sum) (SumOfIntegers 0) (column.Integer 9_903_520_314_283_042_199_192_993_792)
-  pub sum_of_decimals : Aggregates (item (codes "Price") method.Sum) (SumOfDecimals 4) (column.Decimal 9_903_520_314_283_042_199_192_993_792)
-  pub least : Aggregates (item (codes "Name") method.Min) (Min 1) column.Text
-  pub greatest : Aggregates (item (codes "Since") method.Max) (Max 3) column.Date
-  pub greatest_integer : Aggregates (item (codes "Id") method.Max) (Max 0) (column.Integer COLUMN_SIZE)
-  pub distinct : Aggregates (item (codes "Open") method.CountDistinct) (CountDistinct 2) (column.Integer COUNT_SIZE)
-  pub count : Aggregates (counted (codes "A")) Count (column.Integer COUNT_SIZE)
+  pub sum_of_integers : Aggregates (item (codes "Id") method.Sum) (SumOfIntegers 0) (of_size (Number numbers.Integer) 9_903_520_314_283_042_199_192_993_792)
+  pub sum_of_decimals : Aggregates (item (codes "Price") method.Sum) (SumOfDecimals 4) (of_size (Number numbers.Decimal) 9_903_520_314_283_042_199_192_993_792)
+  pub least : Aggregates (item (codes "Name") method.Min) (Min 1) (of Text)
+  pub greatest : Aggregates (item (codes "Since") method.Max) (Max 3) (of (Number numbers.Date))
+  pub greatest_integer : Aggregates (item (codes "Id") method.Max) (Max 0) (of (Number numbers.Integer))
+  pub distinct : Aggregates (item (codes "Open") method.CountDistinct) (CountDistinct 2) count_type
+  pub count : Aggregates (counted (codes "A")) Count count_type
   pub sum_of_texts : FailsToApply (aggregate (item (codes "Name") method.Sum ∷ []) ∷ []) Mismatch
   pub sum_of_truths : FailsToApply (aggregate (item (codes "Open") method.Sum ∷ []) ∷ []) Mismatch
   pub sum_of_dates : FailsToApply (aggregate (item (codes "Since") method.Sum ∷ []) ∷ []) Mismatch
@@ -137,22 +142,22 @@ pub record WorkedTransformations : Type 0 where
   pub mismatch_first : FailsToApply (aggregate (aggregated (codes "Name") method.Sum (codes "Id") ∷ []) ∷ []) Mismatch
   -- `groupby((Open,Id,Open))`, `groupby((Open),aggregate(Id with sum as A))`
   pub groups : HaveTypes (group_by (codes "Open" ∷ codes "Id" ∷ codes "Open" ∷ []) None ∷ []) (group_rows (2 ∷ 0 ∷ []) [] ∷ [])
-      (input (codes "Open") column.Boolean ∷ input (codes "Id") (column.Integer COLUMN_SIZE) ∷ [])
+      (input (codes "Open") (of (Number numbers.Boolean)) ∷ input (codes "Id") (of (Number numbers.Integer)) ∷ [])
   pub aggregated_groups : HaveTypes (group_by (codes "Open" ∷ []) (Some (item (codes "Id") method.Min ∷ [])) ∷ []) (group_rows (2 ∷ []) (made (Min 0) ∷ []) ∷ [])
-      (input (codes "Open") column.Boolean ∷ input (codes "A") (column.Integer COLUMN_SIZE) ∷ [])
+      (input (codes "Open") (of (Number numbers.Boolean)) ∷ input (codes "A") (of (Number numbers.Integer)) ∷ [])
   -- the names come before the items: `groupby((Nobody),aggregate(Name with sum as A))`
   pub unknown_group : FailsToApply (group_by (codes "Open" ∷ codes "Nobody" ∷ []) None ∷ []) UnknownName
   pub names_first : FailsToApply (group_by (codes "Nobody" ∷ []) (Some (item (codes "Name") method.Sum ∷ [])) ∷ []) UnknownName
   pub item_then : FailsToApply (group_by (codes "Open" ∷ []) (Some (item (codes "Name") method.Sum ∷ [])) ∷ []) Mismatch
   -- each is given the columns before it: `groupby((Open))/aggregate($count as N)`, `groupby((Open))/filter(Id)`, `aggregate($count as N)/filter(Open)`
   pub counted_groups : HaveTypes (group_by (codes "Open" ∷ []) None ∷ counted_rows ∷ [])
-      (group_rows (2 ∷ []) [] ∷ aggregate_rows (record { alias = codes "N"; aggregate = Count } ∷ []) ∷ []) (input (codes "N") (column.Integer COUNT_SIZE) ∷ [])
+      (group_rows (2 ∷ []) [] ∷ aggregate_rows (record { alias = codes "N"; aggregate = Count } ∷ []) ∷ []) (input (codes "N") count_type ∷ [])
   pub group_hides : FailsToApply (group_by (codes "Open" ∷ []) None ∷ filter_by (tree.name (codes "Id")) ∷ []) UnknownName
   pub aggregate_hides : FailsToApply (counted_rows ∷ filter_by (tree.name (codes "Open")) ∷ []) UnknownName
   -- an alias is free where its column is gone: `aggregate($count as N)/aggregate($count as Id)`
   pub free_alias : HaveTypes (counted_rows ∷ aggregate (counted (codes "Id") ∷ []) ∷ [])
       (aggregate_rows (record { alias = codes "N"; aggregate = Count } ∷ []) ∷ aggregate_rows (record { alias = codes "Id"; aggregate = Count } ∷ []) ∷ [])
-      (input (codes "Id") (column.Integer COUNT_SIZE) ∷ [])
+      (input (codes "Id") count_type ∷ [])
   -- a sum of sums of sums: the bound of the first is 2 to the 93, of the second 2 to the 123, of the third over 2 to the 126
   pub sum_of_sums : FailsToApply (aggregate (aggregated (codes "Id") method.Sum (codes "A") ∷ []) ∷ aggregate (aggregated (codes "A") method.Sum (codes "B") ∷ [])
       ∷ aggregate (aggregated (codes "B") method.Sum (codes "C") ∷ []) ∷ []) TooLarge

@@ -2,7 +2,8 @@
 
 ghost use Rattle.std.specs.Prelude.{◌≡◌, ◌*◌, ◌++◌, [], IfOk, map};
 ghost use Rattle.odata_parse.specs.Tree.{aggregate_item_view};
-ghost use Rattle.odata_types.specs.Columns.{inputs_view};
+ghost use Rattle.cell_types.specs.declared.kind.ColumnKind.TheVariants.{Number};
+ghost use Rattle.odata_types.specs.Columns.{inputs_view, of_size};
 ghost use Rattle.odata_types.specs.Result.{Gives};
 ghost use Rattle.odata_types.specs.Typing.{within};
 ghost use Rattle.odata_query.specs.Aggregate.{aggregates_view, item_view, items_view, named_view};
@@ -10,6 +11,7 @@ ghost use Rattle.odata_query.specs.Apply.{computed_typing, free_typing, has_alia
 
 use crate::aggregate::{Aggregate, COUNT_SIZE, MOST_ROWS, NamedAggregate};
 use crate::selection::has_name;
+use cell_types::{ColumnKind, NumberKind};
 use odata_parse::tree::{AggregateItem, AggregationMethod};
 use odata_types::{ColumnType, InputColumn, TypeFault, place_of, within};
 use std::alloc::{AllocError, Global};
@@ -20,6 +22,14 @@ pub(crate) struct Item<'a> {
     pub(crate) alias: &'a str,
     pub(crate) aggregate: Aggregate,
     pub(crate) column_type: ColumnType,
+}
+
+/// Returns the type of integers of at most that size.
+fn integers(size: u128) -> ColumnType
+    ensures { result ≡ of_size (Number NumberKind.Integer) size }
+{
+    let kind = ColumnKind::Number(NumberKind::Integer);
+    ColumnType { kind, size }
 }
 
 /// Returns the bound of a sum of a column's numbers.
@@ -36,14 +46,15 @@ fn sum_size(bound: u128) -> Result<u128, TypeFault>
 fn sum_of(place: usize, column_type: ColumnType) -> Result<(Aggregate, ColumnType), TypeFault>
     ensures { Gives (λ x. x) (sum_typing place column_type) result }
 {
-    match column_type {
-        ColumnType::Integer(bound) => {
-            let size = sum_size(bound)?;
-            Ok((Aggregate::SumOfIntegers(place), ColumnType::Integer(size)))
+    match column_type.kind {
+        ColumnKind::Number(NumberKind::Integer) => {
+            let size = sum_size(column_type.size)?;
+            Ok((Aggregate::SumOfIntegers(place), integers(size)))
         }
-        ColumnType::Decimal(bound) => {
-            let size = sum_size(bound)?;
-            Ok((Aggregate::SumOfDecimals(place), ColumnType::Decimal(size)))
+        ColumnKind::Number(NumberKind::Decimal) => {
+            let size = sum_size(column_type.size)?;
+            let kind = ColumnKind::Number(NumberKind::Decimal);
+            Ok((Aggregate::SumOfDecimals(place), ColumnType { kind, size }))
         }
         _ => Err(TypeFault::Mismatch),
     }
@@ -62,10 +73,7 @@ fn computed(
         AggregationMethod::Min => Ok((Aggregate::Min(place), column_type)),
         AggregationMethod::Max => Ok((Aggregate::Max(place), column_type)),
         AggregationMethod::CountDistinct => {
-            Ok((
-                Aggregate::CountDistinct(place),
-                ColumnType::Integer(COUNT_SIZE),
-            ))
+            Ok((Aggregate::CountDistinct(place), integers(COUNT_SIZE)))
         }
     }
 }
@@ -137,7 +145,7 @@ fn typed_item<'a>(
             named(columns, earlier, made, alias.as_str())
         }
         AggregateItem::Count { alias } => {
-            let made = (Aggregate::Count, ColumnType::Integer(COUNT_SIZE));
+            let made = (Aggregate::Count, integers(COUNT_SIZE));
             named(columns, earlier, made, alias.as_str())
         }
     }

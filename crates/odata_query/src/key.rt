@@ -9,7 +9,7 @@ ghost use Rattle.odata_query.specs.Key.{value_in_place as column_value_of, key_t
 ghost use Rattle.odata_query.specs.Query.{optional_values, values_view};
 
 use crate::group::column_at;
-use cell_types::Value;
+use cell_types::{ColumnKind, NumberKind, Value};
 use odata_parse::tree::{Key, KeyPair, Literal};
 use odata_types::{ColumnType, InputColumn, TypeFault, scaled};
 use std::alloc::Global;
@@ -34,16 +34,22 @@ fn key_value(
 ) -> Result<Value<'static>, TypeFault>
     ensures { Gives value_view (key_value_of column_type (literal_view literal.now)) result }
 {
-    match (column_type, literal) {
-        (ColumnType::Integer(_), Literal::Number(number)) => Ok(Value::Int(*number)),
-        (ColumnType::Text, Literal::Text(text)) => {
+    match (column_type.kind, literal) {
+        (ColumnKind::Number(NumberKind::Integer), Literal::Number(number)) => Ok(Value::Int(
+            *number,
+        )),
+        (ColumnKind::Text, Literal::Text(text)) => {
             let text = String::from_str(alloc, text.as_str())?;
             Ok(Value::Text(CowStr::Owned(text)))
         }
-        (ColumnType::Boolean, Literal::Boolean(truth)) => Ok(Value::Bool(*truth)),
-        (ColumnType::Date, Literal::Date(date)) => Ok(Value::Date(*date)),
-        (ColumnType::Decimal(_), Literal::Decimal(number)) => Ok(Value::Decimal(*number)),
-        (ColumnType::Decimal(_), Literal::Number(number)) => scaled_value(*number),
+        (ColumnKind::Number(NumberKind::Boolean), Literal::Boolean(truth)) => Ok(Value::Bool(
+            *truth,
+        )),
+        (ColumnKind::Number(NumberKind::Date), Literal::Date(date)) => Ok(Value::Date(*date)),
+        (ColumnKind::Number(NumberKind::Decimal), Literal::Decimal(number)) => Ok(Value::Decimal(
+            *number,
+        )),
+        (ColumnKind::Number(NumberKind::Decimal), Literal::Number(number)) => scaled_value(*number),
         _ => Err(TypeFault::BadKey),
     }
 }

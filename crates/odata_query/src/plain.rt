@@ -3,17 +3,8 @@ ghost use Rattle.std.specs.Prelude.{◌≡◌, Some};
 ghost use Rattle.typed_trees.specs.TypedTree.{typed_view};
 ghost use Rattle.odata_query.specs.Plain.{as_column, plain_at};
 
-use typed_trees::{DateExpr, NumberExpr, NumberKind, TextExpr, TruthExpr, TypedExpr};
-
-/// The kind of a column's values.
-#[derive(Clone, Copy, PartialEq, Eq)]
-pub enum ColumnKind {
-    Integer,
-    Text,
-    Boolean,
-    Date,
-    Decimal,
-}
+use cell_types::{ColumnKind, NumberKind};
+use typed_trees::{DateExpr, NumberExpr, TextExpr, TruthExpr, TypedExpr};
 
 /// A column by its place, and the kind of its values.
 #[derive(Clone, Copy, PartialEq, Eq)]
@@ -37,7 +28,10 @@ pub fn plain_column(expression: &TypedExpr) -> Option<PlainColumn>
     match expression {
         TypedExpr::Null => None,
         TypedExpr::Integer(number, _) => match &**number {
-            NumberExpr::Column(NumberKind::Integer, place) => column_at(ColumnKind::Integer, place),
+            NumberExpr::Column(NumberKind::Integer, place) => column_at(
+                ColumnKind::Number(NumberKind::Integer),
+                place,
+            ),
             _ => None,
         },
         TypedExpr::Text(text) => match &**text {
@@ -45,15 +39,18 @@ pub fn plain_column(expression: &TypedExpr) -> Option<PlainColumn>
             _ => None,
         },
         TypedExpr::Boolean(truth) => match &**truth {
-            TruthExpr::Column(place) => column_at(ColumnKind::Boolean, place),
+            TruthExpr::Column(place) => column_at(ColumnKind::Number(NumberKind::Boolean), place),
             _ => None,
         },
         TypedExpr::Date(date) => match date {
-            DateExpr::Column(place) => column_at(ColumnKind::Date, place),
+            DateExpr::Column(place) => column_at(ColumnKind::Number(NumberKind::Date), place),
             _ => None,
         },
         TypedExpr::Decimal(number, _) => match &**number {
-            NumberExpr::Column(NumberKind::Decimal, place) => column_at(ColumnKind::Decimal, place),
+            NumberExpr::Column(NumberKind::Decimal, place) => column_at(
+                ColumnKind::Number(NumberKind::Decimal),
+                place,
+            ),
             _ => None,
         },
     }

@@ -5,6 +5,7 @@ use Rattle.std.specs.Int.{w64, is_in_range}
 use Rattle.std.proofs.lemmas.Bool.{and_parts, leb-true}
 use Rattle.std.proofs.lemmas.Int.{ints}
 use Rattle.jiff_core.specs.Calendar.{days_in_month}
+use Rattle.cell_types.specs.Kind.{kind_of}
 use Rattle.cell_types.specs.Column.{ColumnOf}
 use Rattle.cell_types.specs.Datatype as datatype
 use Rattle.cell_types.specs.Datatype.{DatatypeOf}
@@ -12,9 +13,9 @@ use Rattle.cell_types.specs.Date.{is_date}
 use Rattle.cell_types.specs.Laws.{IsOfColumn, IsOfDatatype}
 use Rattle.cell_types.specs.Value.{CellValue, null, integer, text, boolean, date, decimal}
 use Rattle.csvw_meta.specs.Schema.{SchemaOf}
-use Rattle.odata_types.specs.declared.types.TheConstants.{COLUMN_SIZE}
-use Rattle.odata_types.specs.Schema.{input_of, inputs_of, type_of_datatype}
-use Rattle.odata_types.specs.Input.{IsBounded, IsDay, IsInput, IsOfType, IsRowOf, IsShortValue, IsTableRow}
+use Rattle.odata_types.specs.declared.types.TheConstants.{COLUMN_SIZE, MOST_SIZE}
+use Rattle.odata_types.specs.Schema.{input_of, inputs_of}
+use Rattle.odata_types.specs.Input.{IsDay, IsInput, IsOfKind, IsRowOf, IsShortValue, IsTableRow}
 
 upper : (low high n : ℕ) → is_in_range low high n ≡ true → n ≤ high
 upper low high n e = leb-true n high (and_parts (nat_le low n) (nat_le n high) e).1
@@ -34,7 +35,7 @@ day_of y m d e =
 small : (z : ℤ) → FitsSigned w64 z → unsigned_abs z ≤ COLUMN_SIZE
 small z h = omega (arith, ints)
 
-typed_value : (t : DatatypeOf) (v : CellValue) → IsOfDatatype t v → IsShortValue v → IsOfType (type_of_datatype t) v
+typed_value : (t : DatatypeOf) (v : CellValue) → IsOfDatatype t v → IsShortValue v → IsOfKind (kind_of t) COLUMN_SIZE v
 typed_value t null h s = tt
 typed_value datatype.integer (integer z) h s = small z h
 typed_value datatype.text (text x) h s = s
@@ -43,7 +44,7 @@ typed_value (datatype.date form) (date y m d) h s = rw h.1 (day_of h.0 m d h.2)
 typed_value datatype.decimal (decimal z) h s = small z h
 typed_value t v h s = absurd h
 
-column_value : (c : ColumnOf) (v : CellValue) → IsOfColumn c v → IsShortValue v → IsOfType (type_of_datatype c.datatype) v
+column_value : (c : ColumnOf) (v : CellValue) → IsOfColumn c v → IsShortValue v → IsOfKind (kind_of c.datatype) COLUMN_SIZE v
 column_value c null h s = tt
 column_value c (integer z) h s = typed_value c.datatype (integer z) h s
 column_value c (text x) h s = typed_value c.datatype (text x) h s
@@ -57,16 +58,12 @@ table_row [] (v ∷ vs) h = absurd h
 table_row (c ∷ cs) [] h = absurd h
 table_row (c ∷ cs) (v ∷ vs) h = (column_value c v h.0 h.1, table_row cs vs h.2)
 
-bounded : (t : DatatypeOf) → IsBounded (type_of_datatype t)
-bounded datatype.integer = omega arith
-bounded datatype.text = tt
-bounded (datatype.boolean t f) = tt
-bounded (datatype.date form) = tt
-bounded datatype.decimal = omega arith
+bounded : COLUMN_SIZE ≤ MOST_SIZE
+bounded = omega arith
 
 table_columns : (cs : List ColumnOf) → IsInput (map input_of cs)
 table_columns [] = tt
-table_columns (c ∷ cs) = (bounded c.datatype, table_columns cs)
+table_columns (c ∷ cs) = (bounded, table_columns cs)
 
 pub table_input : (schema : SchemaOf) → IsInput (inputs_of schema)
 table_input schema = table_columns schema.columns

@@ -1,7 +1,12 @@
 -- The columns that an expression may name.
 use Rattle.std.specs.Prelude.{ℕ, List, map}
+use Rattle.cell_types.specs.declared.kind.ColumnKind.{ColumnKind}
 use Rattle.odata_types.specs.declared.types.ColumnType.{ColumnType}
 use Rattle.odata_types.specs.declared.types.InputColumn.{InputColumn}
+
+-- a kind of values with the greatest size of its numbers
+abbrev pub of_size : ColumnKind → ℕ → ColumnType
+of_size kind size = record { kind = kind; size = size }
 
 pub record InputOf : Type 0 where
   pub name : List ℕ

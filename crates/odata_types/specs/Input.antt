@@ -5,7 +5,9 @@ use Rattle.cell_types.specs.Value.{CellValue, null, integer, text, boolean, date
 use Rattle.odata_parse.specs.Tree as tree
 use Rattle.odata_parse.specs.Tree.{ExprOf, LiteralOf, OrderItemOf, order_item, TransformationOf, filter_by}
 use Rattle.odata_types.specs.declared.types.ColumnType.{ColumnType}
-use Rattle.odata_types.specs.declared.types.ColumnType.TheVariants as column
+use Rattle.cell_types.specs.declared.kind.ColumnKind.{ColumnKind}
+use Rattle.cell_types.specs.declared.kind.ColumnKind.TheVariants.{Text, Number}
+use Rattle.cell_types.specs.declared.kind.NumberKind.TheVariants as numbers
 use Rattle.odata_types.specs.declared.types.TheConstants.{MOST_SIZE}
 use Rattle.odata_types.specs.Columns.{InputOf}
 
@@ -14,14 +16,17 @@ abbrev pub IsDay : ℕ → ℕ → ℕ → Type 0
 IsDay year month day = (year ≤ 9999) × (month ≤ 12) × (day ≤ 31)
 
 -- a value that a column of a type may have
+abbrev pub IsOfKind : ColumnKind → ℕ → CellValue → Type 0
+IsOfKind kind size null = Unit {0}
+IsOfKind (Number numbers.Integer) size (integer n) = unsigned_abs n ≤ size
+IsOfKind (Number numbers.Decimal) size (decimal n) = unsigned_abs n ≤ size
+IsOfKind Text size (text t) = IsShort t
+IsOfKind (Number numbers.Boolean) size (boolean b) = Unit {0}
+IsOfKind (Number numbers.Date) size (date y m d) = IsDay (unsigned_abs y) m d
+IsOfKind _ _ _ = ⊥
+
 abbrev pub IsOfType : ColumnType → CellValue → Type 0
-IsOfType type null = Unit {0}
-IsOfType (column.Integer bound) (integer n) = unsigned_abs n ≤ bound
-IsOfType (column.Decimal bound) (decimal n) = unsigned_abs n ≤ bound
-IsOfType column.Text (text t) = IsShort t
-IsOfType column.Boolean (boolean b) = Unit {0}
-IsOfType column.Date (date y m d) = IsDay (unsigned_abs y) m d
-IsOfType _ _ = ⊥
+IsOfType type v = IsOfKind type.kind type.size v
 
 -- a row: a value for each column, of its type
 abbrev pub IsRowOf : List InputOf → List CellValue → Type 0
@@ -31,9 +36,7 @@ IsRowOf _ _ = ⊥
 
 -- the numbers of a column are not too large
 abbrev pub IsBounded : ColumnType → Type 0
-IsBounded (column.Integer bound) = bound ≤ MOST_SIZE
-IsBounded (column.Decimal bound) = bound ≤ MOST_SIZE
-IsBounded _ = Unit {0}
+IsBounded type = type.size ≤ MOST_SIZE
 
 -- an input: no column's numbers are too large
 abbrev pub IsInput : List InputOf → Type 0

@@ -8,7 +8,7 @@ use Rattle.odata_parse.specs.declared.tree.UnaryOperator.{UnaryOperator}
 use Rattle.odata_parse.specs.declared.tree.UnaryOperator.TheVariants.{Negate, Not}
 use Rattle.odata_parse.specs.declared.tree.LogicOperator.{LogicOperator}
 use Rattle.odata_parse.specs.declared.tree.LogicOperator.TheVariants.{And, Or}
-use Rattle.typed_trees.specs.declared.operator.ComparisonOperator.{ComparisonOperator}
+use Rattle.cell_types.specs.declared.comparison.ComparisonOperator.{ComparisonOperator}
 use Rattle.typed_trees.specs.declared.operator.ArithmeticOperator.{ArithmeticOperator}
 use Rattle.typed_trees.specs.declared.operator.ArithmeticOperator.TheVariants.{Add, Sub, Mul, Div, Mod}
 use Rattle.odata_parse.specs.declared.tree.BinaryOperator.{BinaryOperator}
@@ -22,7 +22,6 @@ use Rattle.odata_parse.specs.Tree.{LiteralOf, ExprOf}
 use Rattle.typed_trees.specs.declared.tree.TheConstants.{MILLIONTHS}
 use Rattle.odata_types.specs.declared.types.TheConstants.{MOST_SIZE, FUNCTION_SIZE}
 use Rattle.odata_types.specs.declared.types.ColumnType.{ColumnType}
-use Rattle.odata_types.specs.declared.types.ColumnType.TheVariants as column
 use Rattle.odata_types.specs.declared.types.ExprType.{ExprType}
 use Rattle.odata_types.specs.declared.types.ExprType.TheVariants as kind
 use Rattle.odata_types.specs.declared.fault.TypeFault.{TypeFault}
@@ -32,7 +31,9 @@ use Rattle.typed_trees.specs.declared.tree.DatePart.TheVariants as part
 use Rattle.typed_trees.specs.declared.tree.TextTest.TheVariants as test
 use Rattle.odata_types.specs.Columns.{InputOf}
 use Rattle.odata_types.specs.Result.{◌>>=◌}
-use Rattle.typed_trees.specs.declared.tree.NumberKind.TheVariants as numbers
+use Rattle.cell_types.specs.declared.kind.ColumnKind.{ColumnKind}
+use Rattle.cell_types.specs.declared.kind.ColumnKind.TheVariants.{Text, Number}
+use Rattle.cell_types.specs.declared.kind.NumberKind.TheVariants as numbers
 use Rattle.typed_trees.specs.TypedTree.{DateExprOf, TextExprOf, NumberExprOf, TruthExprOf, TypedExprOf, null_date, date_column, date_literal, null_text, text_column, text_literal, concat, null_number, number_column, number_literal, number_of_date, negated, arithmetic, length_of, index_of, part_of, scaled, null_truth, truth_column, truth_literal, negation, conjunction, disjunction, compare_numbers, compare_texts, compare_truths, number_in, text_in, truth_in, test_text, nothing, integer, text, truth, date, decimal, number_of_day}
 
 -- a typed expression, or the cause
@@ -53,12 +54,15 @@ literal_typing (tree.text t) = Ok (text (text_literal t))
 literal_typing (tree.decimal n) = within (unsigned_abs n) (decimal (number_literal n) (unsigned_abs n))
 literal_typing (tree.date y m d) = Ok (date (date_literal (record { year = y; month = m; day = d })))
 
+abbrev pub kind_expr : ℕ → ColumnKind → ℕ → TypedExprOf
+kind_expr place (Number numbers.Integer) size = integer (number_column numbers.Integer place) size
+kind_expr place Text size = text (text_column place)
+kind_expr place (Number numbers.Boolean) size = truth (truth_column place)
+kind_expr place (Number numbers.Date) size = date (date_column place)
+kind_expr place (Number numbers.Decimal) size = decimal (number_column numbers.Decimal place) size
+
 abbrev pub column_expr : ℕ → ColumnType → TypedExprOf
-column_expr place (column.Integer bound) = integer (number_column numbers.Integer place) bound
-column_expr place column.Text = text (text_column place)
-column_expr place column.Boolean = truth (truth_column place)
-column_expr place column.Date = date (date_column place)
-column_expr place (column.Decimal bound) = decimal (number_column numbers.Decimal place) bound
+column_expr place type = kind_expr place type.kind type.size
 
 -- the number of the first column with the name
 abbrev pub place_of : List InputOf → List ℕ → ℕ

@@ -2,8 +2,8 @@
 use Rattle.std.specs.Prelude.{◌≡◌, ℕ, pos, negsuc, true, List, [], ◌∷◌, codes, Some, None, Ok, Err}
 use Rattle.odata_parse.specs.declared.tree.UnaryOperator.TheVariants.{Negate, Not}
 use Rattle.odata_parse.specs.declared.tree.LogicOperator.TheVariants.{And, Or}
-use Rattle.typed_trees.specs.declared.operator.ComparisonOperator.{ComparisonOperator}
-use Rattle.typed_trees.specs.declared.operator.ComparisonOperator.TheVariants.{Equal, NotEqual, GreaterThan, GreaterOrEqual, LessThan, LessOrEqual}
+use Rattle.cell_types.specs.declared.comparison.ComparisonOperator.{ComparisonOperator}
+use Rattle.cell_types.specs.declared.comparison.ComparisonOperator.TheVariants.{Equal, NotEqual, GreaterThan, GreaterOrEqual, LessThan, LessOrEqual}
 use Rattle.typed_trees.specs.declared.operator.ArithmeticOperator.{ArithmeticOperator}
 use Rattle.typed_trees.specs.declared.operator.ArithmeticOperator.TheVariants.{Add, Sub, Mul, Div, Mod}
 use Rattle.odata_parse.specs.declared.tree.BinaryOperator.TheVariants as operator
@@ -11,29 +11,29 @@ use Rattle.odata_parse.specs.declared.tree.UnaryFunction.TheVariants.{Length, Ye
 use Rattle.odata_parse.specs.declared.tree.BinaryFunction.TheVariants.{Contains, StartsWith, EndsWith, IndexOf, Concat}
 use Rattle.odata_parse.specs.Tree as tree
 use Rattle.odata_parse.specs.Tree.{ExprOf}
-use Rattle.odata_types.specs.declared.types.ColumnType.{ColumnType}
-use Rattle.odata_types.specs.declared.types.ColumnType.TheVariants as kind
+use Rattle.cell_types.specs.declared.kind.ColumnKind.{ColumnKind}
+use Rattle.cell_types.specs.declared.kind.ColumnKind.TheVariants.{Text, Number}
 use Rattle.odata_types.specs.declared.types.TheConstants.{COLUMN_SIZE, FUNCTION_SIZE}
 use Rattle.odata_types.specs.declared.fault.TypeFault.{TypeFault}
 use Rattle.odata_types.specs.declared.fault.TypeFault.TheVariants.{UnknownName, Mismatch, TooLarge}
 use Rattle.typed_trees.specs.declared.tree.DatePart.TheVariants as part
 use Rattle.typed_trees.specs.declared.tree.TextTest.TheVariants as test
-use Rattle.odata_types.specs.Columns.{InputOf}
-use Rattle.typed_trees.specs.declared.tree.NumberKind.TheVariants as numbers
+use Rattle.odata_types.specs.Columns.{of_size, InputOf}
+use Rattle.cell_types.specs.declared.kind.NumberKind.TheVariants as numbers
 use Rattle.typed_trees.specs.TypedTree.{DayOf, NumberExprOf, TypedExprOf, date_column, date_literal, null_text, text_column, text_literal, concat, null_number, number_column, number_literal, negated, arithmetic, length_of, index_of, part_of, scaled, null_truth, truth_column, truth_literal, negation, conjunction, disjunction, compare_numbers, compare_texts, compare_truths, number_in, text_in, truth_in, test_text, nothing, integer, text, truth, date, decimal, number_of_day}
 use Rattle.odata_types.specs.Typing.{filter_typing, typing}
 
-abbrev pub input_column : List ℕ → ColumnType → InputOf
-input_column name type = record { name = name; column_type = type }
+abbrev pub input_column : List ℕ → ColumnKind → InputOf
+input_column name kind = record { name = name; column_type = of_size kind COLUMN_SIZE }
 
 abbrev pub columns : List InputOf
 columns =
-    input_column (codes "Id") (kind.Integer COLUMN_SIZE)
-    ∷ input_column (codes "Name") kind.Text
-    ∷ input_column (codes "Pop") (kind.Integer COLUMN_SIZE)
-    ∷ input_column (codes "Open") kind.Boolean
-    ∷ input_column (codes "Since") kind.Date
-    ∷ input_column (codes "Price") (kind.Decimal COLUMN_SIZE)
+    input_column (codes "Id") (Number numbers.Integer)
+    ∷ input_column (codes "Name") Text
+    ∷ input_column (codes "Pop") (Number numbers.Integer)
+    ∷ input_column (codes "Open") (Number numbers.Boolean)
+    ∷ input_column (codes "Since") (Number numbers.Date)
+    ∷ input_column (codes "Price") (Number numbers.Decimal)
     ∷ []
 
 -- ---- expressions

@@ -24,7 +24,7 @@ pub use law::{
 pub use operand::{scaled, within};
 pub use schema::schema_columns;
 pub use typed_trees::{
-    DateExpr, DatePart, MILLIONTHS, NumberExpr, NumberKind, TextExpr, TextTest, TruthExpr,
-    TypedExpr, can_fault, truth_can_fault,
+    DateExpr, DatePart, MILLIONTHS, NumberExpr, TextExpr, TextTest, TruthExpr, TypedExpr,
+    can_fault, truth_can_fault,
 };
 pub use types::{COLUMN_SIZE, ColumnType, ExprType, FUNCTION_SIZE, InputColumn, MOST_SIZE};

@@ -12,9 +12,10 @@ use crate::literal::{is_small, literal_type};
 use crate::operand::{expr_type, number_operand, scaled, text_operand, truth_operand};
 use crate::operator::common_type;
 use crate::types::ExprType;
+use cell_types::day_number;
 use odata_parse::tree::Literal;
 use std::alloc::{AllocError, Global};
-use typed_trees::{MILLIONTHS, TruthExpr, TypedExpr, day_number};
+use typed_trees::{MILLIONTHS, TruthExpr, TypedExpr};
 
 /// Returns the type of an operand and a list together.
 fn list_type(first: ExprType, items: &[Literal]) -> ExprType

@@ -7,10 +7,9 @@ ghost use Rattle.odata_types.specs.Result.{Gives};
 
 use crate::fault::TypeFault;
 use crate::types::{ExprType, MOST_SIZE};
+use cell_types::{NumberKind, day_number};
 use std::alloc::Global;
-use typed_trees::{
-    DateExpr, MILLIONTHS, NumberExpr, NumberKind, TextExpr, TruthExpr, TypedExpr, day_number,
-};
+use typed_trees::{DateExpr, MILLIONTHS, NumberExpr, TextExpr, TruthExpr, TypedExpr};
 
 /// Returns the size, if a number may grow to it.
 pub fn within(size: u128) -> Result<u128, TypeFault>

@@ -11,9 +11,10 @@ use crate::operand::{
     within,
 };
 use crate::types::ExprType;
+use cell_types::ComparisonOperator;
 use odata_parse::tree::{BinaryOperator, LogicOperator, UnaryOperator};
 use std::alloc::Global;
-use typed_trees::{ArithmeticOperator, ComparisonOperator, NumberExpr, TruthExpr, TypedExpr};
+use typed_trees::{ArithmeticOperator, NumberExpr, TruthExpr, TypedExpr};
 
 /// Returns `-` or `not` before an operand.
 pub(crate) fn unary_expr(

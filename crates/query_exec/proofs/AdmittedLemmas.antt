@@ -8,8 +8,8 @@ use Rattle.std.proofs.lemmas.List.Elements.{All-drop, All-take, filter-append}
 use Rattle.std.proofs.lemmas.List.FromFn.{get_or-range_with_len, length-range_with_len}
 use Rattle.std.proofs.lemmas.List.Sums.{length-filter}
 use Rattle.block_summary.specs.declared.block.TheConstants.{BLOCK_ROWS}
-use Rattle.block_summary.specs.declared.test.Comparison.{Comparison}
-use Rattle.block_summary.specs.declared.test.Comparison.TheVariants.{Equal, NotEqual, GreaterThan, GreaterOrEqual, LessThan, LessOrEqual}
+use Rattle.cell_types.specs.declared.comparison.ComparisonOperator.{ComparisonOperator}
+use Rattle.cell_types.specs.declared.comparison.ComparisonOperator.TheVariants.{Equal, NotEqual, GreaterThan, GreaterOrEqual, LessThan, LessOrEqual}
 use Rattle.block_summary.specs.Blocks.{block_at, block_count}
 use Rattle.block_summary.specs.Laws.{OneRange}
 use Rattle.block_summary.specs.Ranges.{RangeOf, column_of, is_null, no_range, range_of, AreAllNull, AreRangesOf}
@@ -65,7 +65,7 @@ has_nulls : (rows : List (List CellValue)) (col : ℕ) → 0 < length rows → A
 has_nulls [] col some short = absurd (omega (arith, some))
 has_nulls (row ∷ rows) col some short = first_counts (slice_index_or row col null) (column_of rows col) (get_or_past row col null (short 0 row (omega arith)))
 
-nulls_admit : (op : Comparison) (n : ℕ) (v : CellValue) → nat_lt 0 n ≡ true → admits op null_range v ≡ admits op (record { least = None; greatest = None; null_count = n }) v
+nulls_admit : (op : ComparisonOperator) (n : ℕ) (v : CellValue) → nat_lt 0 n ≡ true → admits op null_range v ≡ admits op (record { least = None; greatest = None; null_count = n }) v
 nulls_admit Equal n null h = sym h
 nulls_admit Equal n v h = refl
 nulls_admit NotEqual n null h = refl
@@ -84,7 +84,7 @@ nulls_admit LessOrEqual n v h = refl
 module _ (law : OneRange) (ranges : List RangeOf) (rows : List (List CellValue)) (are : AreRangesOf ranges rows) (wide : All (λ row. length row ≡ length ranges) rows)
     (some : 0 < length rows) where
   -- a test is admitted by the ranges of a block just where it is by the cells of its rows
-  same_test : (op : Comparison) (col : ℕ) (literal : CellValue) → admits op (slice_index_or ranges col null_range) literal ≡ admits op (range_of (column_of rows col)) literal
+  same_test : (op : ComparisonOperator) (col : ℕ) (literal : CellValue) → admits op (slice_index_or ranges col null_range) literal ≡ admits op (range_of (column_of rows col)) literal
   same_test op col literal = elim (cases_lt col (length ranges)) [
     | inl less ↦
         ap (λ (r : RangeOf). admits op r literal)

@@ -5,10 +5,11 @@ use Rattle.std.specs.List.{All}
 use Rattle.std.proofs.lemmas.Bool.{cases_lt}
 use Rattle.std.proofs.lemmas.List.{get_or_past}
 use Rattle.cell_types.specs.Value.{CellValue, date}
-use Rattle.odata_types.specs.declared.types.ColumnType.{ColumnType}
-use Rattle.odata_types.specs.declared.types.ColumnType.TheVariants as column
+use Rattle.cell_types.specs.declared.kind.ColumnKind.{ColumnKind}
+use Rattle.cell_types.specs.declared.kind.ColumnKind.TheVariants.{Number}
+use Rattle.cell_types.specs.declared.kind.NumberKind.TheVariants.{Date}
 use Rattle.odata_types.specs.Columns.{InputOf}
-use Rattle.odata_types.specs.Input.{IsOfType, IsRowOf}
+use Rattle.odata_types.specs.Input.{IsOfKind, IsRowOf}
 use Rattle.odata_types.specs.Laws.{TablesAreInputs}
 use Rattle.row_eval.specs.Laws.{IsCalendarDay}
 use Rattle.row_eval.specs.Row.{day_in}
@@ -16,14 +17,14 @@ use Rattle.table_store.specs.Fits.{HasTableRows}
 use Rattle.table_store.specs.Table.{TableOf}
 use Rattle.sort_rows.specs.Cutoffs.{HasCalendarDays}
 
-value_day : (type : ColumnType) (v : CellValue) → IsOfType type v → IfSome (day_in v) IsCalendarDay
-value_day column.Date (date y m d) is = (is.1, is.2)
-value_day type (date y m d) is = absurd is
-value_day type v is = tt
+value_day : (kind : ColumnKind) (size : ℕ) (v : CellValue) → IsOfKind kind size v → IfSome (day_in v) IsCalendarDay
+value_day (Number Date) size (date y m d) is = (is.1, is.2)
+value_day kind size (date y m d) is = absurd is
+value_day kind size v is = tt
 
 row_days : (columns : List InputOf) (row : List CellValue) → IsRowOf columns row → HasCalendarDays row
 row_days [] [] is place = tt
-row_days (c ∷ cs) (v ∷ vs) is zero = value_day c.column_type v is.0
+row_days (c ∷ cs) (v ∷ vs) is zero = value_day c.column_type.kind c.column_type.size v is.0
 row_days (c ∷ cs) (v ∷ vs) is (suc place) = row_days cs vs is.1 place
 row_days cs vs is place = absurd is
 

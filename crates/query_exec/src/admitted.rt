@@ -5,8 +5,8 @@ ghost use Rattle.cell_types.specs.Value.{value_view};
 ghost use Rattle.query_plan.specs.Scan.{test_view};
 ghost use Rattle.query_exec.specs.Admitted.{admitted_numbers, null_range, range_admits, ranges_admit};
 
-use block_summary::{Comparison, Summary, Test, admits};
-use cell_types::Value;
+use block_summary::{Summary, Test, admits};
+use cell_types::{ComparisonOperator, Value};
 use query_plan::ColumnTest;
 use std::alloc::{AllocError, Global};
 use std::collections::VecDeque;
@@ -17,9 +17,11 @@ fn nulls_admit(test: &Test<'_>) -> bool
 {
     let is_null = matches!(test.literal, Value::Null);
     match test.op {
-        Comparison::Equal | Comparison::GreaterOrEqual | Comparison::LessOrEqual => is_null,
-        Comparison::NotEqual => !is_null,
-        Comparison::GreaterThan | Comparison::LessThan => false,
+        ComparisonOperator::Equal
+        | ComparisonOperator::GreaterOrEqual
+        | ComparisonOperator::LessOrEqual => is_null,
+        ComparisonOperator::NotEqual => !is_null,
+        ComparisonOperator::GreaterThan | ComparisonOperator::LessThan => false,
     }
 }
 

@@ -7,7 +7,7 @@ use Rattle.odata_parse.specs.declared.tree.UnaryOperator.{UnaryOperator}
 use Rattle.odata_parse.specs.declared.tree.UnaryOperator.TheVariants.{Negate, Not}
 use Rattle.odata_parse.specs.declared.tree.LogicOperator.{LogicOperator}
 use Rattle.odata_parse.specs.declared.tree.LogicOperator.TheVariants.{And, Or}
-use Rattle.typed_trees.specs.declared.operator.ComparisonOperator.{ComparisonOperator}
+use Rattle.cell_types.specs.declared.comparison.ComparisonOperator.{ComparisonOperator}
 use Rattle.typed_trees.specs.declared.operator.ArithmeticOperator.{ArithmeticOperator}
 use Rattle.typed_trees.specs.declared.operator.ArithmeticOperator.TheVariants.{Add, Sub, Mul, Div, Mod}
 use Rattle.odata_parse.specs.declared.tree.BinaryOperator.{BinaryOperator}

@@ -6,11 +6,12 @@ use Rattle.cell_types.specs.Value as cells
 use Rattle.cell_types.specs.Value.{CellValue}
 use Rattle.odata_parse.specs.Tree as tree
 use Rattle.odata_parse.specs.Tree.{LiteralOf}
-use Rattle.typed_trees.specs.declared.tree.NumberKind.TheVariants as numbers
+use Rattle.cell_types.specs.declared.kind.NumberKind.TheVariants as numbers
 use Rattle.typed_trees.specs.declared.tree.TheConstants.{MILLIONTHS}
 use Rattle.odata_types.specs.declared.types.TheConstants.{MOST_SIZE}
 use Rattle.odata_types.specs.declared.types.ColumnType.{ColumnType}
-use Rattle.odata_types.specs.declared.types.ColumnType.TheVariants as column
+use Rattle.cell_types.specs.declared.kind.ColumnKind.{ColumnKind}
+use Rattle.cell_types.specs.declared.kind.ColumnKind.TheVariants.{Text, Number}
 use Rattle.odata_types.specs.declared.types.ExprType.{ExprType}
 use Rattle.odata_types.specs.declared.types.ExprType.TheVariants as kind
 use Rattle.odata_types.specs.declared.fault.TypeFault.{TypeFault}
@@ -19,9 +20,9 @@ use Rattle.odata_types.specs.Columns.{InputOf}
 use Rattle.odata_types.specs.Result.{◌>>=◌}
 use Rattle.typed_trees.specs.TypedTree as typed
 use Rattle.typed_trees.specs.TypedTree.{DateExprOf, TextExprOf, NumberExprOf, TypedExprOf, number_of_date}
-use Rattle.odata_types.specs.Typing.{as_date, as_decimal, as_integer, as_number, as_text, as_truth, column_at, column_expr, literal_typing, name_typing, place_of, within}
+use Rattle.odata_types.specs.Typing.{as_date, as_decimal, as_integer, as_number, as_text, as_truth, column_at, column_expr, kind_expr, literal_typing, name_typing, place_of, within}
 use Rattle.row_eval.specs.Bounds.{NumberFits, TruthFits}
-use Rattle.odata_types.specs.Input.{IsBounded, IsDay, IsInput, IsOfType, IsRowOf, IsShortLiteral}
+use Rattle.odata_types.specs.Input.{IsBounded, IsDay, IsInput, IsOfKind, IsOfType, IsRowOf, IsShortLiteral}
 use Rattle.row_eval.specs.Outcome.{date_outcome, number_outcome, text_outcome}
 use Rattle.row_eval.specs.Row.{day_in, number_in, text_in}
 use Rattle.query_meaning.proofs.SizeLemmas.{AtMost, Sized, fits_of, scaled_sized}
@@ -111,28 +112,31 @@ literal_sound row (tree.text t) h = omega (arith, h)
 literal_sound row (tree.date y m d) h = h
 literal_sound row (tree.decimal n) h = if_within (unsigned_abs n) (typed.decimal (typed.number_literal n) (unsigned_abs n)) (Sound row 1) (λ limit. (limit, tt, omega arith))
 
-integer_cell : (o : Option CellValue) (b : ℕ) → IfSome o (IsOfType (column.Integer b)) → AtMost b (option_and_then (number_in numbers.Integer) o)
+integer_cell : (o : Option CellValue) (b : ℕ) → IfSome o (IsOfKind (Number numbers.Integer) b) → AtMost b (option_and_then (number_in numbers.Integer) o)
 integer_cell (Some (cells.integer n)) b h = h
 integer_cell o b h = tt
 
-decimal_cell : (o : Option CellValue) (b : ℕ) → IfSome o (IsOfType (column.Decimal b)) → AtMost b (option_and_then (number_in numbers.Decimal) o)
+decimal_cell : (o : Option CellValue) (b : ℕ) → IfSome o (IsOfKind (Number numbers.Decimal) b) → AtMost b (option_and_then (number_in numbers.Decimal) o)
 decimal_cell (Some (cells.decimal n)) b h = h
 decimal_cell o b h = tt
 
-text_cell : (o : Option CellValue) → IfSome o (IsOfType column.Text) → IfSome (option_and_then text_in o) (λ t. length t ≤ 1 * 2 ^ 30)
-text_cell (Some (cells.text t)) h = omega (arith, h)
-text_cell o h = tt
+text_cell : (o : Option CellValue) (b : ℕ) → IfSome o (IsOfKind Text b) → IfSome (option_and_then text_in o) (λ t. length t ≤ 1 * 2 ^ 30)
+text_cell (Some (cells.text t)) b h = omega (arith, h)
+text_cell o b h = tt
 
-date_cell : (o : Option CellValue) → IfSome o (IsOfType column.Date) → IfSome (option_and_then day_in o) (λ d. IsDay (unsigned_abs d.year) d.month d.day)
-date_cell (Some (cells.date y m d)) h = h
-date_cell o h = tt
+date_cell : (o : Option CellValue) (b : ℕ) → IfSome o (IsOfKind (Number numbers.Date) b) → IfSome (option_and_then day_in o) (λ d. IsDay (unsigned_abs d.year) d.month d.day)
+date_cell (Some (cells.date y m d)) b h = h
+date_cell o b h = tt
+
+kind_sound : (row : List CellValue) (place : ℕ) (kind : ColumnKind) (b : ℕ) → b ≤ MOST_SIZE → IfSome (slice_get row place) (IsOfKind kind b) → Sound row 1 (kind_expr place kind b)
+kind_sound row place (Number numbers.Integer) b limit h = (limit, tt, integer_cell (slice_get row place) b h)
+kind_sound row place Text b limit h = text_cell (slice_get row place) b h
+kind_sound row place (Number numbers.Boolean) b limit h = tt
+kind_sound row place (Number numbers.Date) b limit h = date_cell (slice_get row place) b h
+kind_sound row place (Number numbers.Decimal) b limit h = (limit, tt, decimal_cell (slice_get row place) b h)
 
 column_sound : (row : List CellValue) (place : ℕ) (type : ColumnType) → IsBounded type → IfSome (slice_get row place) (IsOfType type) → Sound row 1 (column_expr place type)
-column_sound row place (column.Integer b) limit h = (limit, tt, integer_cell (slice_get row place) b h)
-column_sound row place column.Text limit h = text_cell (slice_get row place) h
-column_sound row place column.Boolean limit h = tt
-column_sound row place column.Date limit h = date_cell (slice_get row place) h
-column_sound row place (column.Decimal b) limit h = (limit, tt, decimal_cell (slice_get row place) b h)
+column_sound row place type limit h = kind_sound row place type.kind type.size limit h
 
 cell_at : (inputs : List InputOf) (row : List CellValue) (place : ℕ) (c : InputOf) → IsInput inputs → IsRowOf inputs row → slice_get inputs place ≡ Some c → IsBounded c.column_type × IfSome (slice_get row place) (IsOfType c.column_type)
 cell_at [] row place c limit h e = absurd (cc)

@@ -8,9 +8,9 @@ use Rattle.cell_types.specs.Datatype.{DatatypeOf, boolean_view}
 use Rattle.cell_types.specs.Value.{CellValue, null, integer, text, boolean, date, decimal}
 use Rattle.csvw_meta.specs.Schema.{SchemaOf}
 use Rattle.typed_trees.specs.declared.operator.ArithmeticOperator.TheVariants.{Div, Sub}
-use Rattle.typed_trees.specs.declared.operator.ComparisonOperator.TheVariants.{Equal, GreaterThan}
+use Rattle.cell_types.specs.declared.comparison.ComparisonOperator.TheVariants.{Equal, GreaterThan}
 use Rattle.odata_types.specs.declared.types.TheConstants.{COLUMN_SIZE}
-use Rattle.typed_trees.specs.declared.tree.NumberKind.TheVariants as numbers
+use Rattle.cell_types.specs.declared.kind.NumberKind.TheVariants as numbers
 use Rattle.typed_trees.specs.TypedTree as typed
 use Rattle.typed_trees.specs.TypedTree.{NumberExprOf, TypedExprOf, TruthExprOf}
 use Rattle.odata_query.specs.declared.aggregate.Aggregate.{Aggregate}

@@ -10,16 +10,18 @@ use Rattle.odata_parse.specs.declared.tree.AggregationMethod.{AggregationMethod}
 use Rattle.odata_parse.specs.declared.tree.AggregationMethod.TheVariants as method
 use Rattle.odata_parse.specs.Tree.{AggregateItemOf, aggregated, counted}
 use Rattle.odata_types.specs.declared.types.ColumnType.{ColumnType}
-use Rattle.odata_types.specs.declared.types.ColumnType.TheVariants as column
+use Rattle.cell_types.specs.declared.kind.ColumnKind.{ColumnKind}
+use Rattle.cell_types.specs.declared.kind.ColumnKind.TheVariants.{Text, Number}
+use Rattle.cell_types.specs.declared.kind.NumberKind.TheVariants as numbers
 use Rattle.odata_types.specs.declared.types.TheConstants.{MOST_SIZE}
-use Rattle.odata_types.specs.Columns.{InputOf}
+use Rattle.odata_types.specs.Columns.{of_size, InputOf}
 use Rattle.odata_types.specs.Result.{◌>>=◌}
 use Rattle.odata_types.specs.Typing.{place_of}
 use Rattle.odata_query.specs.declared.aggregate.Aggregate.{Aggregate}
 use Rattle.odata_query.specs.declared.aggregate.Aggregate.TheVariants.{Count, SumOfIntegers, SumOfDecimals}
-use Rattle.odata_query.specs.declared.aggregate.TheConstants.{COUNT_SIZE, MOST_ROWS}
+use Rattle.odata_query.specs.declared.aggregate.TheConstants.{MOST_ROWS}
 use Rattle.odata_query.specs.Aggregate.{ItemOf}
-use Rattle.odata_query.specs.Apply.{computed_typing, free_typing, has_alias, item_column, item_typing, items_typing, method_at, method_typing, named_of, optional_items, sum_typing}
+use Rattle.odata_query.specs.Apply.{computed_typing, count_type, free_typing, has_alias, item_column, item_typing, items_typing, kind_sum, method_at, method_typing, named_of, optional_items, sum_typing}
 use Rattle.odata_query.specs.Selection.{has_name}
 use Rattle.odata_types.specs.Input.{IsOfType, IsRowOf}
 use Rattle.row_eval.specs.Row.{cell, decimal_in, integer_in}
@@ -53,38 +55,43 @@ summable bound ns rows all small few =
     record { bound = bound; each = All-from_recursion (AtMost bound) ns all; small = omega arith }
 
 module _ (inputs : List InputOf) (place : ℕ) (name : List ℕ) where
-  integer_sum_good : (bound : ℕ) → slice_get inputs place ≡ Some (record { name = name; column_type = column.Integer bound }) → bound * MOST_ROWS ≤ MOST_SIZE
-      → IsGood inputs (SumOfIntegers place, column.Integer (bound * MOST_ROWS))
+  integer_sum_good : (bound : ℕ) → slice_get inputs place ≡ Some (record { name = name; column_type = of_size (Number numbers.Integer) bound }) → bound * MOST_ROWS ≤ MOST_SIZE
+      → IsGood inputs (SumOfIntegers place, of_size (Number numbers.Integer) (bound * MOST_ROWS))
   integer_sum_good bound is small = record {
     value = λ rows all few. integer_sum_fits bound MOST_ROWS (filter_map (λ row. cell integer_in row place) rows)
-        (numbers_within integer_in (column.Integer bound) bound (integers_within bound) inputs place name is rows all)
+        (numbers_within integer_in (of_size (Number numbers.Integer) bound) bound (integers_within bound) inputs place name is rows all)
         (let fewer : length (filter_map (λ row. cell integer_in row place) rows) ≤ length rows = length-filter_map-le (λ row. cell integer_in row place) rows in omega arith);
     fits = λ r stands. (
-      let below : place < length inputs = place_below inputs place (record { name = name; column_type = column.Integer bound }) is in let named : length r.names ≡ length inputs = stands.named in omega arith,
+      let below : place < length inputs = place_below inputs place (record { name = name; column_type = of_size (Number numbers.Integer) bound }) is in let named : length r.names ≡ length inputs = stands.named in omega arith,
       summable bound (filter_map (λ row. cell integer_in row place) r.rows) (length r.rows)
-          (numbers_within integer_in (column.Integer bound) bound (integers_within bound) inputs place name is r.rows stands.each) small stands.few,
+          (numbers_within integer_in (of_size (Number numbers.Integer) bound) bound (integers_within bound) inputs place name is r.rows stands.each) small stands.few,
     );
   }
 
-  decimal_sum_good : (bound : ℕ) → slice_get inputs place ≡ Some (record { name = name; column_type = column.Decimal bound }) → bound * MOST_ROWS ≤ MOST_SIZE
-      → IsGood inputs (SumOfDecimals place, column.Decimal (bound * MOST_ROWS))
+  decimal_sum_good : (bound : ℕ) → slice_get inputs place ≡ Some (record { name = name; column_type = of_size (Number numbers.Decimal) bound }) → bound * MOST_ROWS ≤ MOST_SIZE
+      → IsGood inputs (SumOfDecimals place, of_size (Number numbers.Decimal) (bound * MOST_ROWS))
   decimal_sum_good bound is small = record {
     value = λ rows all few. decimal_sum_fits bound MOST_ROWS (filter_map (λ row. cell decimal_in row place) rows)
-        (numbers_within decimal_in (column.Decimal bound) bound (decimals_within bound) inputs place name is rows all)
+        (numbers_within decimal_in (of_size (Number numbers.Decimal) bound) bound (decimals_within bound) inputs place name is rows all)
         (let fewer : length (filter_map (λ row. cell decimal_in row place) rows) ≤ length rows = length-filter_map-le (λ row. cell decimal_in row place) rows in omega arith);
     fits = λ r stands. (
-      let below : place < length inputs = place_below inputs place (record { name = name; column_type = column.Decimal bound }) is in let named : length r.names ≡ length inputs = stands.named in omega arith,
+      let below : place < length inputs = place_below inputs place (record { name = name; column_type = of_size (Number numbers.Decimal) bound }) is in let named : length r.names ≡ length inputs = stands.named in omega arith,
       summable bound (filter_map (λ row. cell decimal_in row place) r.rows) (length r.rows)
-          (numbers_within decimal_in (column.Decimal bound) bound (decimals_within bound) inputs place name is r.rows stands.each) small stands.few,
+          (numbers_within decimal_in (of_size (Number numbers.Decimal) bound) bound (decimals_within bound) inputs place name is r.rows stands.each) small stands.few,
     );
   }
 
+  kind_good : (kind : ColumnKind) (size : ℕ) → slice_get inputs place ≡ Some (record { name = name; column_type = of_size kind size }) → Told (IsGood inputs) (kind_sum place kind size)
+  kind_good (Number numbers.Integer) b is =
+      told_within (IsGood inputs) (b * MOST_ROWS) (SumOfIntegers place, of_size (Number numbers.Integer) (b * MOST_ROWS)) (integer_sum_good b is)
+  kind_good Text b is = tt
+  kind_good (Number numbers.Boolean) b is = tt
+  kind_good (Number numbers.Date) b is = tt
+  kind_good (Number numbers.Decimal) b is =
+      told_within (IsGood inputs) (b * MOST_ROWS) (SumOfDecimals place, of_size (Number numbers.Decimal) (b * MOST_ROWS)) (decimal_sum_good b is)
+
   sum_good : (type : ColumnType) → slice_get inputs place ≡ Some (record { name = name; column_type = type }) → Told (IsGood inputs) (sum_typing place type)
-  sum_good (column.Integer b) is = told_within (IsGood inputs) (b * MOST_ROWS) (SumOfIntegers place, column.Integer (b * MOST_ROWS)) (integer_sum_good b is)
-  sum_good column.Text is = tt
-  sum_good column.Boolean is = tt
-  sum_good column.Date is = tt
-  sum_good (column.Decimal b) is = told_within (IsGood inputs) (b * MOST_ROWS) (SumOfDecimals place, column.Decimal (b * MOST_ROWS)) (decimal_sum_good b is)
+  sum_good type is = kind_good type.kind type.size is
 
   module _ (type : ColumnType) (is : slice_get inputs place ≡ Some (record { name = name; column_type = type })) where
     there : (r : ResultOf) → Stands inputs r → place < length r.names
@@ -111,14 +118,14 @@ IsGoodItem inputs x = IsGood inputs (x.aggregate, x.column_type)
 free_good : (inputs : List InputOf) (earlier : List ItemOf) (made : Aggregate × ColumnType) (alias : List ℕ) → IsGood inputs made → Told (IsGoodItem inputs) (free_typing inputs earlier made alias)
 free_good inputs earlier made alias h = elim (cases_Bool (has_name inputs alias || has_alias earlier alias)) [ inl e ↦ rw e tt | inr e ↦ rw e h ]
 
-count_good : (inputs : List InputOf) → IsGood inputs (Count, column.Integer COUNT_SIZE)
+count_good : (inputs : List InputOf) → IsGood inputs (Count, count_type)
 count_good inputs = record { value = λ rows all few. omega arith; fits = λ r stands. tt }
 
 item_good : (inputs : List InputOf) (earlier : List ItemOf) (item : AggregateItemOf) → Told (IsGoodItem inputs) (item_typing inputs earlier item)
 item_good inputs earlier (aggregated name m alias) =
     told_then (IsGood inputs) (IsGoodItem inputs) (computed_typing inputs name m) (λ made. free_typing inputs earlier made alias)
     (method_at_good inputs m (place_of inputs name) (slice_get inputs (place_of inputs name)) refl) (λ made k. free_good inputs earlier made alias k)
-item_good inputs earlier (counted alias) = free_good inputs earlier (Count, column.Integer COUNT_SIZE) alias (count_good inputs)
+item_good inputs earlier (counted alias) = free_good inputs earlier (Count, count_type) alias (count_good inputs)
 
 abbrev pub AreGood : List InputOf → List ItemOf → Type 0
 AreGood inputs xs = AllByRecursion (IsGoodItem inputs) xs

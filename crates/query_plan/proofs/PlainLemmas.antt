@@ -7,7 +7,7 @@ use Rattle.odata_parse.specs.declared.tree.UnaryOperator.{UnaryOperator}
 use Rattle.odata_parse.specs.declared.tree.UnaryOperator.TheVariants.{Negate, Not}
 use Rattle.odata_parse.specs.declared.tree.LogicOperator.{LogicOperator}
 use Rattle.odata_parse.specs.declared.tree.LogicOperator.TheVariants.{And, Or}
-use Rattle.typed_trees.specs.declared.operator.ComparisonOperator.{ComparisonOperator}
+use Rattle.cell_types.specs.declared.comparison.ComparisonOperator.{ComparisonOperator}
 use Rattle.typed_trees.specs.declared.operator.ArithmeticOperator.{ArithmeticOperator}
 use Rattle.typed_trees.specs.declared.operator.ArithmeticOperator.TheVariants.{Add, Sub}
 use Rattle.odata_parse.specs.declared.tree.BinaryOperator.{BinaryOperator}
@@ -19,8 +19,9 @@ use Rattle.odata_parse.specs.declared.tree.BinaryFunction.TheVariants.{Contains,
 use Rattle.odata_parse.specs.Tree as tree
 use Rattle.odata_parse.specs.Tree.{LiteralOf, ExprOf}
 use Rattle.odata_types.specs.declared.fault.TypeFault.{TypeFault}
-use Rattle.odata_types.specs.declared.types.ColumnType.{ColumnType}
-use Rattle.odata_types.specs.declared.types.ColumnType.TheVariants as column
+use Rattle.cell_types.specs.declared.kind.ColumnKind.{ColumnKind}
+use Rattle.cell_types.specs.declared.kind.ColumnKind.TheVariants.{Text, Number}
+use Rattle.cell_types.specs.declared.kind.NumberKind.TheVariants as numbers
 use Rattle.odata_types.specs.declared.types.ExprType.{ExprType}
 use Rattle.odata_types.specs.declared.types.ExprType.TheVariants as kind
 use Rattle.odata_types.specs.declared.types.TheConstants.{FUNCTION_SIZE}
@@ -29,7 +30,7 @@ use Rattle.typed_trees.specs.declared.tree.DatePart.TheVariants as part
 use Rattle.odata_types.specs.Columns.{InputOf}
 use Rattle.odata_types.specs.Result.{◌>>=◌}
 use Rattle.typed_trees.specs.TypedTree.{TypedExprOf, NumberExprOf, TextExprOf, TruthExprOf, compare_numbers, compare_texts, compare_truths, date, decimal, arithmetic, integer, length_of, negation, nothing, number_in, number_literal, part_of, text, text_in, truth, truth_in}
-use Rattle.odata_types.specs.Typing.{Typing, arithmetic_as, as_date, as_decimal, as_integer, as_number, as_text, as_truth, binary_call_typing, binary_typing, column_at, column_expr, common_type, comparison_as, decimals_typing, computed_size, type_fits, in_typing, integers_typing, is_small, list_as, list_in_type, list_type, literal_type, literal_typing, logic_expr, number_items, part_typing, place_of, text_call, text_item, truth_item, type_of, typing, unary_call_typing, unary_typing, within}
+use Rattle.odata_types.specs.Typing.{Typing, arithmetic_as, as_date, as_decimal, as_integer, as_number, as_text, as_truth, binary_call_typing, binary_typing, column_at, kind_expr, common_type, comparison_as, decimals_typing, computed_size, type_fits, in_typing, integers_typing, is_small, list_as, list_in_type, list_type, literal_type, literal_typing, logic_expr, number_items, part_typing, place_of, text_call, text_item, truth_item, type_of, typing, unary_call_typing, unary_typing, within}
 use Rattle.query_meaning.specs.Order.{plain_column}
 use Rattle.query_plan.proofs.AggregateLemmas.{place_below}
 use Rattle.query_plan.proofs.TypingLemmas.{Told, told_any, told_then, told_within}
@@ -51,16 +52,16 @@ module _ (inputs : List InputOf) where
   literal_there (tree.decimal n) = told_within IsThere (unsigned_abs n) (decimal (number_literal n) (unsigned_abs n)) (λ h. tt)
   literal_there (tree.date y m d) = tt
 
-  expr_there : (place : ℕ) (type : ColumnType) → place < length inputs → IsThere (column_expr place type)
-  expr_there place (column.Integer bound) h = h
-  expr_there place column.Text h = h
-  expr_there place column.Boolean h = h
-  expr_there place column.Date h = h
-  expr_there place (column.Decimal bound) h = h
+  kind_there : (place : ℕ) (kind : ColumnKind) (size : ℕ) → place < length inputs → IsThere (kind_expr place kind size)
+  kind_there place (Number numbers.Integer) size h = h
+  kind_there place Text size h = h
+  kind_there place (Number numbers.Boolean) size h = h
+  kind_there place (Number numbers.Date) size h = h
+  kind_there place (Number numbers.Decimal) size h = h
 
   column_there : (place : ℕ) (o : Option InputOf) → slice_get inputs place ≡ o → Told IsThere (column_at place o)
   column_there place None e = tt
-  column_there place (Some c) e = expr_there place c.column_type (place_below inputs place c e)
+  column_there place (Some c) e = kind_there place c.column_type.kind c.column_type.size (place_below inputs place c e)
 
   unary_there : (o : UnaryOperator) (t : TypedExprOf) → Told IsThere (unary_typing o t)
   unary_there Negate (decimal e bound) = tt

@@ -7,7 +7,9 @@ use Rattle.odata_parse.specs.declared.tree.AggregationMethod.{AggregationMethod}
 use Rattle.odata_parse.specs.declared.tree.AggregationMethod.TheVariants as method
 use Rattle.odata_parse.specs.Tree.{AggregateItemOf, aggregated, counted, TransformationOf, filter_by, aggregate, group_by}
 use Rattle.odata_types.specs.declared.types.ColumnType.{ColumnType}
-use Rattle.odata_types.specs.declared.types.ColumnType.TheVariants as column
+use Rattle.cell_types.specs.declared.kind.ColumnKind.{ColumnKind}
+use Rattle.cell_types.specs.declared.kind.ColumnKind.TheVariants.{Text, Number}
+use Rattle.cell_types.specs.declared.kind.NumberKind.TheVariants as numbers
 use Rattle.odata_types.specs.declared.types.TheConstants.{MOST_SIZE}
 use Rattle.odata_types.specs.Columns.{InputOf}
 use Rattle.odata_types.specs.Result.{◌>>=◌}
@@ -16,7 +18,7 @@ use Rattle.odata_types.specs.Typing.{filter_typing, place_of}
 use Rattle.odata_query.specs.declared.aggregate.Aggregate.{Aggregate}
 use Rattle.odata_query.specs.declared.aggregate.TheConstants.{COUNT_SIZE, MOST_ROWS}
 use Rattle.odata_query.specs.Aggregate.{ItemOf, TypedTransformationOf, filter_rows, aggregate_rows, group_rows}
-use Rattle.odata_query.specs.Apply.{apply_typing, columns_at, computed_typing, free_typing, grouped_places, has_alias, item_column, item_typing, items_typing, method_at, method_typing, named_of, optional_items, sum_typing, transformation_typing}
+use Rattle.odata_query.specs.Apply.{apply_typing, columns_at, computed_typing, free_typing, grouped_places, has_alias, item_column, item_typing, items_typing, kind_sum, method_at, method_typing, named_of, optional_items, sum_typing, transformation_typing}
 use Rattle.odata_query.specs.Selection.{has_name}
 use Rattle.odata_types.specs.Input.{IsBounded, IsInput}
 use Rattle.query_plan.proofs.TypingLemmas.{Told, told_any, told_then, told_within}
@@ -26,12 +28,15 @@ use Rattle.query_plan.proofs.TypingLemmas.{Told, told_any, told_then, told_withi
 abbrev IsBoundedPair : Aggregate × ColumnType → Type 0
 IsBoundedPair made = IsBounded made.1
 
+kind_bounded : (place : ℕ) (kind : ColumnKind) (size : ℕ) → Told IsBoundedPair (kind_sum place kind size)
+kind_bounded place (Number numbers.Integer) b = told_within IsBoundedPair (b * MOST_ROWS) _ (λ h. h)
+kind_bounded place Text b = tt
+kind_bounded place (Number numbers.Boolean) b = tt
+kind_bounded place (Number numbers.Date) b = tt
+kind_bounded place (Number numbers.Decimal) b = told_within IsBoundedPair (b * MOST_ROWS) _ (λ h. h)
+
 sum_bounded : (place : ℕ) (type : ColumnType) → Told IsBoundedPair (sum_typing place type)
-sum_bounded place (column.Integer b) = told_within IsBoundedPair (b * MOST_ROWS) _ (λ h. h)
-sum_bounded place column.Text = tt
-sum_bounded place column.Boolean = tt
-sum_bounded place column.Date = tt
-sum_bounded place (column.Decimal b) = told_within IsBoundedPair (b * MOST_ROWS) _ (λ h. h)
+sum_bounded place type = kind_bounded place type.kind type.size
 
 count_bounded : COUNT_SIZE ≤ MOST_SIZE
 count_bounded = omega arith

@@ -8,32 +8,32 @@ use Rattle.std.specs.declared.cmp.Ordering.TheVariants.{Less, Equal, Greater}
 use Rattle.std.proofs.lemmas.Bool.{false≢true}
 use Rattle.block_summary.specs.Ranges.{is_null}
 use Rattle.block_summary.specs.Tests.{test_passes as passes_comparison}
+use Rattle.cell_types.specs.declared.kind.ColumnKind.TheVariants.{Text, Number}
+use Rattle.cell_types.specs.Kind.{is_of_kind}
 use Rattle.cell_types.specs.Column.{ColumnOf}
 use Rattle.cell_types.specs.Rows.{IsTableRow}
 use Rattle.cell_types.specs.Value.{CellValue, boolean, date, decimal, integer, null, text, value_cmp}
-use Rattle.typed_trees.specs.declared.operator.ComparisonOperator.{ComparisonOperator}
-use Rattle.typed_trees.specs.declared.operator.ComparisonOperator.TheVariants as op
-use Rattle.odata_types.specs.declared.types.ColumnType.{ColumnType}
-use Rattle.odata_types.specs.declared.types.ColumnType.TheVariants as column
+use Rattle.cell_types.specs.declared.comparison.ComparisonOperator.{ComparisonOperator}
+use Rattle.cell_types.specs.declared.comparison.ComparisonOperator.TheVariants as op
+use Rattle.cell_types.specs.declared.kind.ColumnKind.{ColumnKind}
 use Rattle.odata_types.specs.declared.types.ExprType.{ExprType}
 use Rattle.odata_types.specs.declared.types.ExprType.TheVariants as kind
-use Rattle.typed_trees.specs.declared.tree.NumberKind.{NumberKind}
-use Rattle.typed_trees.specs.declared.tree.NumberKind.TheVariants as numbers
+use Rattle.cell_types.specs.declared.kind.NumberKind.{NumberKind}
+use Rattle.cell_types.specs.declared.kind.NumberKind.TheVariants as numbers
 use Rattle.typed_trees.specs.declared.tree.TheConstants.{MILLIONTHS}
 use Rattle.odata_types.specs.declared.types.TheConstants.{MOST_SIZE}
 use Rattle.odata_types.specs.Columns.{InputOf}
 use Rattle.typed_trees.specs.TypedTree as typed
 use Rattle.typed_trees.specs.TypedTree.{NumberExprOf, TextExprOf, TruthExprOf}
-use Rattle.odata_types.specs.Typing.{column_expr, type_of}
+use Rattle.odata_types.specs.Typing.{column_expr, kind_expr, type_of}
 use Rattle.row_eval.specs.declared.truth.Truth.{Truth}
 use Rattle.row_eval.specs.Comparison.{compared, holds}
-use Rattle.odata_types.specs.Input.{IsOfType, IsRowOf}
+use Rattle.odata_types.specs.Input.{IsOfKind, IsRowOf}
 use Rattle.row_eval.specs.Logic.{option_of_truth, truth_of, truth_of_option}
 use Rattle.row_eval.specs.Outcome.{both, number_outcome, or_null, text_outcome, truth_outcome}
 use Rattle.row_eval.specs.Row.{boolean_in, cell, number_in, text_in}
 use Rattle.query_meaning.specs.Filter.{is_true, passes}
-use Rattle.zone_maps.specs.Known.{comparison_of, is_of_kind}
-use Rattle.zone_maps.specs.Numbers.{kind_of, number_cell, NumbersAreTested}
+use Rattle.zone_maps.specs.Numbers.{number_cell, NumbersAreTested}
 use Rattle.query_plan.specs.Scan.{TestOf, passes_test}
 use Rattle.query_plan.specs.Tests.{compared_with, literal_number, number_value, scaled_number, test_of, text_value, truth_value}
 use Rattle.query_plan.specs.Types.{IsTruthOver, column_kind, number_type}
@@ -43,7 +43,7 @@ use Rattle.query_plan.proofs.ValueLemmas.{OfColumn, value_fits}
 
 -- two values that are no null, by their order
 values_pass : (o : ComparisonOperator) (v w : CellValue) (r : Ordering) → is_null v ≡ false → is_null w ≡ false → value_cmp v w ≡ r → holds o (Some r) ≡ true
-    → passes_comparison (comparison_of o) v w ≡ true
+    → passes_comparison o v w ≡ true
 values_pass op.Equal v w Equal nv nw e h = rw e refl
 values_pass op.NotEqual v w Less nv nw e h = rw e refl
 values_pass op.NotEqual v w Greater nv nw e h = rw e refl
@@ -55,7 +55,7 @@ values_pass op.LessOrEqual v w Less nv nw e h = rw nv (rw nw (rw e refl))
 values_pass op.LessOrEqual v w Equal nv nw e h = rw nv (rw nw (rw e refl))
 values_pass o v w r nv nw e h = absurd (false≢true h)
 
-nulls_pass : (o : ComparisonOperator) → holds o (Some Equal) ≡ true → passes_comparison (comparison_of o) null null ≡ true
+nulls_pass : (o : ComparisonOperator) → holds o (Some Equal) ≡ true → passes_comparison o null null ≡ true
 unfolding value_cmp
 nulls_pass op.Equal h = refl
 nulls_pass op.GreaterOrEqual h = refl
@@ -63,7 +63,7 @@ nulls_pass op.LessOrEqual h = refl
 nulls_pass o h = absurd (false≢true h)
 
 -- a null beside a value
-one_passes : (o : ComparisonOperator) (v w : CellValue) → is_eq (value_cmp v w) ≡ false → holds o None ≡ true → passes_comparison (comparison_of o) v w ≡ true
+one_passes : (o : ComparisonOperator) (v w : CellValue) → is_eq (value_cmp v w) ≡ false → holds o None ≡ true → passes_comparison o v w ≡ true
 one_passes op.NotEqual v w e h = rw e refl
 one_passes o v w e h = absurd (false≢true h)
 
@@ -75,7 +75,7 @@ record IsKindOf {X : Type 0} (make : X → CellValue) (cmp : X → X → Orderin
   pub behind : (x : X) → is_eq (value_cmp (make x) null) ≡ false
 
 kind_passes : {X : Type 0} (make : X → CellValue) (cmp : X → X → Ordering) → IsKindOf make cmp → (o : ComparisonOperator) (a b : Option X)
-    → holds o (compared cmp a b) ≡ true → passes_comparison (comparison_of o) (or_null make a) (or_null make b) ≡ true
+    → holds o (compared cmp a b) ≡ true → passes_comparison o (or_null make a) (or_null make b) ≡ true
 kind_passes make cmp is o None None h = nulls_pass o h
 kind_passes make cmp is o None (Some y) h = one_passes o null (make y) (is.before y) h
 kind_passes make cmp is o (Some x) None h = one_passes o (make x) null (is.behind x) h
@@ -99,42 +99,48 @@ cell_at read e (v ∷ vs) (suc place) = cell_at read e vs place
 -- a value of a column of a type is null or a value of the type
 record Reads {X : Type 0} (make : X → CellValue) (read : CellValue → Option X) (wanted : ExprType) : Type 0 where
   pub null_is : read null ≡ None
-  pub each : (place : ℕ) (type : ColumnType) (v : CellValue) → type_of (column_expr place type) ≡ wanted → IsOfType type v → v ≡ or_null make (read v)
+  pub each : (place : ℕ) (k : ColumnKind) (size : ℕ) (v : CellValue) → type_of (kind_expr place k size) ≡ wanted → IsOfKind k size v → v ≡ or_null make (read v)
 
-text_cells : (place : ℕ) (type : ColumnType) (v : CellValue) → type_of (column_expr place type) ≡ kind.Text → IsOfType type v → v ≡ or_null text (text_in v)
-text_cells place column.Text null e h = refl
-text_cells place column.Text (text t) e h = refl
-text_cells place column.Text v e h = absurd h
-text_cells place type v e h = absurd (cc)
+text_cells : (place : ℕ) (k : ColumnKind) (size : ℕ) (v : CellValue) → type_of (kind_expr place k size) ≡ kind.Text → IsOfKind k size v → v ≡ or_null text (text_in v)
+text_cells place Text size null e h = refl
+text_cells place Text size (text t) e h = refl
+text_cells place Text size v e h = absurd h
+text_cells place (Number numbers.Integer) size v e h = absurd (cc)
+text_cells place (Number numbers.Decimal) size v e h = absurd (cc)
+text_cells place (Number numbers.Boolean) size v e h = absurd (cc)
+text_cells place (Number numbers.Date) size v e h = absurd (cc)
 
-boolean_cells : (place : ℕ) (type : ColumnType) (v : CellValue) → type_of (column_expr place type) ≡ kind.Boolean → IsOfType type v → v ≡ or_null boolean (boolean_in v)
-boolean_cells place column.Boolean null e h = refl
-boolean_cells place column.Boolean (boolean b) e h = refl
-boolean_cells place column.Boolean v e h = absurd h
-boolean_cells place type v e h = absurd (cc)
+boolean_cells : (place : ℕ) (k : ColumnKind) (size : ℕ) (v : CellValue) → type_of (kind_expr place k size) ≡ kind.Boolean → IsOfKind k size v → v ≡ or_null boolean (boolean_in v)
+boolean_cells place (Number numbers.Boolean) size null e h = refl
+boolean_cells place (Number numbers.Boolean) size (boolean b) e h = refl
+boolean_cells place (Number numbers.Boolean) size v e h = absurd h
+boolean_cells place k size v e h = absurd (cc)
 
 column_cell : {X : Type 0} (make : X → CellValue) (read : CellValue → Option X) (wanted : ExprType) → Reads make read wanted → (place : ℕ) (c : Option InputOf) (v : CellValue)
     → option_map (λ c. type_of (column_expr place c.column_type)) c ≡ Some wanted → OfColumn c v → v ≡ or_null make (read v)
 column_cell make read wanted reads place None v e h = absurd (cc)
-column_cell make read wanted reads place (Some c) v e h = let same : type_of (column_expr place c.column_type) ≡ wanted = cc in reads.each place c.column_type v same h
+column_cell make read wanted reads place (Some c) v e h = let same : type_of (column_expr place c.column_type) ≡ wanted = cc in reads.each place c.column_type.kind c.column_type.size v same h
 
 -- a value of a column of numbers is null or of the kind
-number_cells : (k : NumberKind) (place : ℕ) (type : ColumnType) (v : CellValue) → type_of (column_expr place type) ≡ number_type k → IsOfType type v → is_of_kind (kind_of k) v ≡ true
-number_cells numbers.Integer place (column.Integer bound) null e h = refl
-number_cells numbers.Integer place (column.Integer bound) (integer n) e h = refl
-number_cells numbers.Integer place (column.Integer bound) v e h = absurd h
-number_cells numbers.Decimal place (column.Decimal bound) null e h = refl
-number_cells numbers.Decimal place (column.Decimal bound) (decimal n) e h = refl
-number_cells numbers.Decimal place (column.Decimal bound) v e h = absurd h
-number_cells numbers.Date place column.Date null e h = refl
-number_cells numbers.Date place column.Date (date y m d) e h = refl
-number_cells numbers.Date place column.Date v e h = absurd h
-number_cells k place type v e h = absurd (cc)
+number_cells : (n : NumberKind) (place : ℕ) (k : ColumnKind) (size : ℕ) (v : CellValue) → type_of (kind_expr place k size) ≡ number_type n → IsOfKind k size v → is_of_kind (Number n) v ≡ true
+number_cells numbers.Integer place (Number numbers.Integer) size null e h = refl
+number_cells numbers.Integer place (Number numbers.Integer) size (integer n) e h = refl
+number_cells numbers.Integer place (Number numbers.Integer) size v e h = absurd h
+number_cells numbers.Decimal place (Number numbers.Decimal) size null e h = refl
+number_cells numbers.Decimal place (Number numbers.Decimal) size (decimal n) e h = refl
+number_cells numbers.Decimal place (Number numbers.Decimal) size v e h = absurd h
+number_cells numbers.Boolean place (Number numbers.Boolean) size null e h = refl
+number_cells numbers.Boolean place (Number numbers.Boolean) size (boolean b) e h = refl
+number_cells numbers.Boolean place (Number numbers.Boolean) size v e h = absurd h
+number_cells numbers.Date place (Number numbers.Date) size null e h = refl
+number_cells numbers.Date place (Number numbers.Date) size (date y m d) e h = refl
+number_cells numbers.Date place (Number numbers.Date) size v e h = absurd h
+number_cells n place k size v e h = absurd (cc)
 
 column_number : (k : NumberKind) (place : ℕ) (c : Option InputOf) (v : CellValue) → option_map (λ c. type_of (column_expr place c.column_type)) c ≡ Some (number_type k) → OfColumn c v
-    → is_of_kind (kind_of k) v ≡ true
+    → is_of_kind (Number k) v ≡ true
 column_number k place None v e h = absurd (cc)
-column_number k place (Some c) v e h = let same : type_of (column_expr place c.column_type) ≡ number_type k = cc in number_cells k place c.column_type v same h
+column_number k place (Some c) v e h = let same : type_of (column_expr place c.column_type) ≡ number_type k = cc in number_cells k place c.column_type.kind c.column_type.size v same h
 
 -- ---- literals
 
@@ -192,7 +198,7 @@ module _ {X : Type 0} (make : X → CellValue) (cmp : X → X → Ordering) (rea
   comparison_passes : (inputs : List InputOf) (row : List CellValue) → IsRowOf inputs row → (place : ℕ) → column_kind inputs place ≡ Some wanted
       → (o : ComparisonOperator) (outcome : Option (Option X)) (w : CellValue) → Literal make outcome w
       → is_true (both (λ x y. truth_of (holds o (compared cmp x y))) (Some (cell read row place)) outcome) ≡ true
-      → passes_comparison (comparison_of o) (get_or row place null) w ≡ true
+      → passes_comparison o (get_or row place null) w ≡ true
   comparison_passes inputs row are place kinds o outcome w literal h =
       let v = get_or row place null in
       let y = literal.0 in
@@ -201,12 +207,12 @@ module _ {X : Type 0} (make : X → CellValue) (cmp : X → X → Ordering) (rea
       let at : is_true (both f (Some (read v)) (Some y)) ≡ true =
       sym (ap (λ (x : Option X). is_true (both f (Some x) (Some y))) (cell_at read reads.null_is row place))
       ∙ sym (ap (λ (z : Option (Option X)). is_true (both f (Some (cell read row place)) z)) literal.1) ∙ h in
-      ap (λ (a : CellValue). passes_comparison (comparison_of o) a w) cells
-      ∙ ap (λ (a : CellValue). passes_comparison (comparison_of o) (or_null make (read v)) a) literal.2
+      ap (λ (a : CellValue). passes_comparison o a w) cells
+      ∙ ap (λ (a : CellValue). passes_comparison o (or_null make (read v)) a) literal.2
       ∙ kind_passes make cmp is o (read v) y (holds_is (holds o (compared cmp (read v) y)) at)
 
 compared_is : (place : ℕ) (o : ComparisonOperator) (literal : Option CellValue) (t : TestOf) → compared_with place o literal ≡ Some t
-    → (w : CellValue) × (literal ≡ Some w) × (record { column = place; op = comparison_of o; literal = w } ≡ t)
+    → (w : CellValue) × (literal ≡ Some w) × (record { column = place; op = o; literal = w } ≡ t)
 compared_is place o None t e = absurd (cc)
 compared_is place o (Some w) t e = (w, refl, cc)
 
@@ -221,7 +227,7 @@ truths_compared o x (Some b) = ap (λ (z : Option Bool). Some (truth_of (holds o
 number_passed : NumbersAreTested → (columns : List ColumnOf) (inputs : List InputOf) (row : List CellValue) → IsTableRow columns row → IsRowOf inputs row → (k : NumberKind) (place : ℕ) → column_kind inputs place ≡ Some (number_type k)
     → (o : ComparisonOperator) (b : NumberExprOf) (w : CellValue) → number_value k b ≡ Some w
     → is_true (both (λ x y. truth_of (holds o (compared int_cmp x y))) (Some (cell (number_in k) row place)) (number_outcome b row)) ≡ true
-    → passes_comparison (comparison_of o) (get_or row place null) w ≡ true
+    → passes_comparison o (get_or row place null) w ≡ true
 number_passed law columns inputs row fits are k place kinds o b w is h =
     let found = value_is k (literal_number b) w is in
     let n = found.0 in

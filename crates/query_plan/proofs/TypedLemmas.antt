@@ -11,7 +11,7 @@ use Rattle.odata_parse.specs.declared.tree.BinaryOperator.{BinaryOperator}
 use Rattle.odata_parse.specs.declared.tree.BinaryOperator.TheVariants as operator
 use Rattle.odata_parse.specs.declared.tree.LogicOperator.{LogicOperator}
 use Rattle.odata_parse.specs.declared.tree.LogicOperator.TheVariants.{And, Or}
-use Rattle.typed_trees.specs.declared.operator.ComparisonOperator.{ComparisonOperator}
+use Rattle.cell_types.specs.declared.comparison.ComparisonOperator.{ComparisonOperator}
 use Rattle.odata_parse.specs.declared.tree.UnaryFunction.{UnaryFunction}
 use Rattle.odata_parse.specs.declared.tree.UnaryFunction.TheVariants as unary
 use Rattle.odata_parse.specs.declared.tree.UnaryOperator.{UnaryOperator}
@@ -19,8 +19,9 @@ use Rattle.odata_parse.specs.declared.tree.UnaryOperator.TheVariants.{Negate, No
 use Rattle.odata_parse.specs.Tree as tree
 use Rattle.odata_parse.specs.Tree.{ExprOf, LiteralOf}
 use Rattle.odata_types.specs.declared.fault.TypeFault.{TypeFault}
-use Rattle.odata_types.specs.declared.types.ColumnType.{ColumnType}
-use Rattle.odata_types.specs.declared.types.ColumnType.TheVariants as column
+use Rattle.cell_types.specs.declared.kind.ColumnKind.{ColumnKind}
+use Rattle.cell_types.specs.declared.kind.ColumnKind.TheVariants.{Text, Number}
+use Rattle.cell_types.specs.declared.kind.NumberKind.TheVariants as numbers
 use Rattle.odata_types.specs.declared.types.ExprType.{ExprType}
 use Rattle.odata_types.specs.declared.types.ExprType.TheVariants as kind
 use Rattle.typed_trees.specs.declared.tree.DatePart.{DatePart}
@@ -31,7 +32,7 @@ use Rattle.typed_trees.specs.TypedTree as typed
 use Rattle.typed_trees.specs.TypedTree.{DateExprOf, TextExprOf, TruthExprOf, TypedExprOf, number_of_date}
 use Rattle.typed_trees.specs.declared.tree.TheConstants.{MILLIONTHS}
 use Rattle.odata_types.specs.declared.types.TheConstants.{FUNCTION_SIZE}
-use Rattle.odata_types.specs.Typing.{arithmetic_as, as_date, as_decimal, as_integer, as_number, as_text, as_truth, binary_call_typing, binary_typing, column_at, column_expr, common_type, comparison_as, comparison_typing, computed_size, decimals_typing, filter_typing, type_fits, in_typing, integers_typing, is_small, list_as, list_in_type, list_type, literal_type, literal_typing, logic_expr, logic_typing, number_items, part_typing, place_of, text_call, type_of, typing, unary_call_typing, unary_typing}
+use Rattle.odata_types.specs.Typing.{arithmetic_as, as_date, as_decimal, as_integer, as_number, as_text, as_truth, binary_call_typing, binary_typing, column_at, column_expr, common_type, comparison_as, comparison_typing, computed_size, decimals_typing, filter_typing, in_typing, integers_typing, is_small, kind_expr, list_as, list_in_type, list_type, literal_type, literal_typing, logic_expr, logic_typing, number_items, part_typing, place_of, text_call, type_fits, type_of, typing, unary_call_typing, unary_typing}
 use Rattle.query_plan.specs.Types.{IsDateOver, IsNumberOver, IsTextOver, IsTruthOver, column_kind}
 use Rattle.query_plan.proofs.TypingLemmas.{Told, told_any, told_then, told_within}
 
@@ -86,16 +87,16 @@ module _ (inputs : List InputOf) where
 
   -- ---- columns and literals
 
-  column_over : (place : ℕ) (type : ColumnType) → column_kind inputs place ≡ Some (type_of (column_expr place type)) → IsOver inputs (column_expr place type)
-  column_over place (column.Integer bound) h = h
-  column_over place column.Text h = h
-  column_over place column.Boolean h = h
-  column_over place column.Date h = h
-  column_over place (column.Decimal bound) h = h
+  kind_over : (place : ℕ) (kind : ColumnKind) (size : ℕ) → column_kind inputs place ≡ Some (type_of (kind_expr place kind size)) → IsOver inputs (kind_expr place kind size)
+  kind_over place (Number numbers.Integer) size h = h
+  kind_over place Text size h = h
+  kind_over place (Number numbers.Boolean) size h = h
+  kind_over place (Number numbers.Date) size h = h
+  kind_over place (Number numbers.Decimal) size h = h
 
   name_over : (place : ℕ) (c : Option InputOf) → slice_get inputs place ≡ c → Told (IsOver inputs) (column_at place c)
   name_over place None e = tt
-  name_over place (Some c) e = column_over place c.column_type (ap (option_map (λ (c : InputOf). type_of (column_expr place c.column_type))) e)
+  name_over place (Some c) e = kind_over place c.column_type.kind c.column_type.size (ap (option_map (λ (c : InputOf). type_of (column_expr place c.column_type))) e)
 
   literal_over : (v : LiteralOf) → Told (IsOver inputs) (literal_typing v)
   literal_over tree.null = tt

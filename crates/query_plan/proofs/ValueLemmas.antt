@@ -11,9 +11,10 @@ use Rattle.std.proofs.lemmas.Map.Made.{distinct_count-le}
 use Rattle.std.proofs.lemmas.Nat.{mul-le}
 use Rattle.cell_types.specs.Value.{CellValue, null, integer, decimal, value_cmp, value_eq}
 use Rattle.odata_types.specs.declared.types.ColumnType.{ColumnType}
-use Rattle.odata_types.specs.declared.types.ColumnType.TheVariants as column
+use Rattle.cell_types.specs.declared.kind.ColumnKind.TheVariants.{Number}
+use Rattle.cell_types.specs.declared.kind.NumberKind.TheVariants as numbers
 use Rattle.odata_types.specs.Columns.{InputOf}
-use Rattle.odata_types.specs.Input.{IsOfType, IsRowOf}
+use Rattle.odata_types.specs.Input.{IsOfKind, IsOfType, IsRowOf}
 use Rattle.row_eval.specs.Row.{cell, decimal_in, integer_in}
 use Rattle.query_meaning.specs.Apply.{greatest_value, integer_sum, is_value, least_value, sum_value, value_at, present_values}
 use Rattle.cell_types.proofs.ListLaws.{length-filter-le}
@@ -47,11 +48,11 @@ cell_fits (c ∷ cs) (v ∷ vs) (suc place) h = cell_fits cs vs place h.1
 abbrev pub AtMost : ℕ → ℤ → Type 0
 AtMost bound n = unsigned_abs n ≤ bound
 
-pub integers_within : (bound : ℕ) (v : CellValue) → IsOfType (column.Integer bound) v → IfSome (integer_in v) (AtMost bound)
+pub integers_within : (bound : ℕ) (v : CellValue) → IsOfKind (Number numbers.Integer) bound v → IfSome (integer_in v) (AtMost bound)
 integers_within bound (integer n) h = h
 integers_within bound v h = tt
 
-pub decimals_within : (bound : ℕ) (v : CellValue) → IsOfType (column.Decimal bound) v → IfSome (decimal_in v) (AtMost bound)
+pub decimals_within : (bound : ℕ) (v : CellValue) → IsOfKind (Number numbers.Decimal) bound v → IfSome (decimal_in v) (AtMost bound)
 decimals_within bound (decimal n) h = h
 decimals_within bound v h = tt
 
@@ -89,11 +90,11 @@ sum_below bound most ns all few =
     let turned : most * bound ≡ bound * most = grind arith in
     omega arith
 
-pub integer_sum_fits : (bound most : ℕ) (ns : List ℤ) → AllByRecursion (AtMost bound) ns → length ns ≤ most → IsOfType (column.Integer (bound * most)) (sum_value integer ns)
+pub integer_sum_fits : (bound most : ℕ) (ns : List ℤ) → AllByRecursion (AtMost bound) ns → length ns ≤ most → IsOfKind (Number numbers.Integer) (bound * most) (sum_value integer ns)
 integer_sum_fits bound most [] all few = tt
 integer_sum_fits bound most (n ∷ ns) all few = sum_below bound most (n ∷ ns) all few
 
-pub decimal_sum_fits : (bound most : ℕ) (ns : List ℤ) → AllByRecursion (AtMost bound) ns → length ns ≤ most → IsOfType (column.Decimal (bound * most)) (sum_value decimal ns)
+pub decimal_sum_fits : (bound most : ℕ) (ns : List ℤ) → AllByRecursion (AtMost bound) ns → length ns ≤ most → IsOfKind (Number numbers.Decimal) (bound * most) (sum_value decimal ns)
 decimal_sum_fits bound most [] all few = tt
 decimal_sum_fits bound most (n ∷ ns) all few = sum_below bound most (n ∷ ns) all few
 

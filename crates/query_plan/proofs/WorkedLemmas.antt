@@ -5,7 +5,7 @@ use Rattle.std.specs.List.{range_with_len}
 use Rattle.std.specs.Ordering.{is_gt}
 use Rattle.std.proofs.lemmas.List.{length-drop, length-take-le}
 use Rattle.std.proofs.lemmas.List.Sums.{length-filter}
-use Rattle.block_summary.specs.declared.test.Comparison.TheVariants.{GreaterThan}
+use Rattle.cell_types.specs.declared.comparison.ComparisonOperator.TheVariants.{GreaterThan}
 use Rattle.block_summary.specs.Blocks.{block_at, block_count}
 use Rattle.cell_types.specs.Value.{CellValue, integer, value_cmp}
 use Rattle.query_plan.specs.Scan.{TestOf, admits_all, admitted_blocks, block_numbers, reached}

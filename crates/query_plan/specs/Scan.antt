@@ -2,7 +2,7 @@
 use Rattle.std.specs.Prelude.{ℕ, ◌-◌, ◌==◌, ◌&&◌, Bool, List, [], ◌∷◌, Option, Some, None, count_by, filter, if◌then◌else◌, is_none, length, map, slice_index_or}
 use Rattle.std.specs.List.{flat_map, list_all, range_with_len}
 use Rattle.cell_types.specs.Value.{CellValue, null, value_view}
-use Rattle.block_summary.specs.declared.test.Comparison.{Comparison}
+use Rattle.cell_types.specs.declared.comparison.ComparisonOperator.{ComparisonOperator}
 use Rattle.block_summary.specs.Blocks.{block_at, block_count}
 use Rattle.block_summary.specs.Ranges.{column_of, range_of}
 use Rattle.block_summary.specs.Tests.{admits, test_passes as passes_comparison}
@@ -14,7 +14,7 @@ use Rattle.query_meaning.specs.Filter.{passes_each}
 -- a column, by its number, compared with a literal
 pub record TestOf : Type 0 where
   pub column : ℕ
-  pub op : Comparison
+  pub op : ComparisonOperator
   pub literal : CellValue
 
 abbrev pub test_view : ColumnTest → TestOf

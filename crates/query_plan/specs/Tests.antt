@@ -2,12 +2,11 @@
 use Rattle.std.specs.Prelude.{ℕ, ℤ, pos, ◌*◌, ◌*ℤ◌, neg_ℤ, unsigned_abs, nat_le, Option, Some, None, if◌then◌else◌, option_and_then, option_map}
 use Rattle.cell_types.specs.Value as value
 use Rattle.cell_types.specs.Value.{CellValue}
-use Rattle.typed_trees.specs.declared.operator.ComparisonOperator.{ComparisonOperator}
-use Rattle.typed_trees.specs.declared.tree.NumberKind.{NumberKind}
+use Rattle.cell_types.specs.declared.comparison.ComparisonOperator.{ComparisonOperator}
+use Rattle.cell_types.specs.declared.kind.NumberKind.{NumberKind}
 use Rattle.typed_trees.specs.declared.tree.TheConstants.{MILLIONTHS}
 use Rattle.odata_types.specs.declared.types.TheConstants.{MOST_SIZE}
 use Rattle.typed_trees.specs.TypedTree.{NumberExprOf, TextExprOf, TruthExprOf, compare_numbers, compare_texts, compare_truths, negated, null_number, null_text, null_truth, number_column, number_literal, scaled, text_column, text_literal, truth_column, truth_literal}
-use Rattle.zone_maps.specs.Known.{comparison_of}
 use Rattle.zone_maps.specs.Numbers.{number_cell}
 use Rattle.query_plan.specs.Scan.{TestOf}
 
@@ -43,7 +42,7 @@ truth_value (truth_literal b) = Some (value.boolean b)
 truth_value _ = None
 
 abbrev pub compared_with : ℕ → ComparisonOperator → Option CellValue → Option TestOf
-compared_with place operator literal = option_map (λ v. record { column = place; op = comparison_of operator; literal = v }) literal
+compared_with place operator literal = option_map (λ v. record { column = place; op = operator; literal = v }) literal
 
 -- the test that a condition is, where it compares a column with a literal
 abbrev pub test_of : TruthExprOf → Option TestOf

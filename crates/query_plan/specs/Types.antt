@@ -4,8 +4,8 @@ use Rattle.std.specs.List.{All}
 use Rattle.csvw_meta.specs.Schema.{SchemaOf}
 use Rattle.odata_types.specs.Columns.{InputOf}
 use Rattle.odata_types.specs.Schema.{inputs_of}
-use Rattle.typed_trees.specs.declared.tree.NumberKind.{NumberKind}
-use Rattle.typed_trees.specs.declared.tree.NumberKind.TheVariants as numbers
+use Rattle.cell_types.specs.declared.kind.NumberKind.{NumberKind}
+use Rattle.cell_types.specs.declared.kind.NumberKind.TheVariants as numbers
 use Rattle.typed_trees.specs.TypedTree.{DateExprOf, NumberExprOf, TextExprOf, TruthExprOf, compare_numbers, compare_texts, compare_truths, conjunction, date_column, number_column, text_column, truth_column}
 use Rattle.odata_types.specs.Typing.{column_expr, type_of}
 use Rattle.odata_types.specs.declared.types.ExprType.{ExprType}
@@ -20,6 +20,7 @@ column_kind inputs place = option_map (λ c. type_of (column_expr place c.column
 abbrev pub number_type : NumberKind → ExprType
 number_type numbers.Integer = kind.Integer
 number_type numbers.Decimal = kind.Decimal
+number_type numbers.Boolean = kind.Boolean
 number_type numbers.Date = kind.Date
 
 -- where an expression is a column alone, this is there, and has values of the type

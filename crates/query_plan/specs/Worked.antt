@@ -1,13 +1,11 @@
 -- What some queries ask of the summaries of blocks, and the blocks that they need, on a table of three cities and one of four prices.
 use Rattle.std.specs.Prelude.{◌≡◌, ℕ, pos, neg_ℤ, true, List, [], ◌∷◌, codes, length, Option, Some}
-use Rattle.block_summary.specs.declared.test.Comparison.{Comparison}
-use Rattle.block_summary.specs.declared.test.Comparison.TheVariants as comparisons
 use Rattle.block_summary.specs.Blocks.{block_at}
 use Rattle.block_summary.specs.Ranges.{column_of, range_of}
 use Rattle.cell_types.specs.Value.{CellValue, null, integer, text, boolean, date, decimal}
-use Rattle.typed_trees.specs.declared.operator.ComparisonOperator.{ComparisonOperator}
-use Rattle.typed_trees.specs.declared.operator.ComparisonOperator.TheVariants.{Equal, NotEqual, GreaterThan, GreaterOrEqual, LessThan, LessOrEqual}
-use Rattle.typed_trees.specs.declared.tree.NumberKind.TheVariants as numbers
+use Rattle.cell_types.specs.declared.comparison.ComparisonOperator.{ComparisonOperator}
+use Rattle.cell_types.specs.declared.comparison.ComparisonOperator.TheVariants.{Equal, NotEqual, GreaterThan, GreaterOrEqual, LessThan, LessOrEqual}
+use Rattle.cell_types.specs.declared.kind.NumberKind.TheVariants as numbers
 use Rattle.typed_trees.specs.TypedTree as typed
 use Rattle.typed_trees.specs.TypedTree.{NumberExprOf, TruthExprOf, number_of_date}
 use Rattle.odata_query.specs.Aggregate.{filter_rows, group_rows}
@@ -31,7 +29,7 @@ abbrev pub five : NumberExprOf
 five = typed.number_literal (pos 5)
 
 -- a test of the column with a number
-abbrev pub test : ℕ → Comparison → CellValue → TestOf
+abbrev pub test : ℕ → ComparisonOperator → CellValue → TestOf
 test column op literal = record { column = column; op = op; literal = literal }
 
 -- what is asked of the summaries for `$filter` with a condition
@@ -40,35 +38,35 @@ Pushes e tests = pushed_tests (record every { filter = Some e }) ≡ tests
 
 pub record WorkedTests : Type 0 where
   -- `Pop eq 5`, `Pop ne 5`, `Pop gt 5`, `Pop ge 5`, `Pop lt 5`, `Pop le 5`
-  pub equal : Pushes (pop_is Equal five) (test 2 comparisons.Equal (integer (pos 5)) ∷ [])
-  pub not_equal : Pushes (pop_is NotEqual five) (test 2 comparisons.NotEqual (integer (pos 5)) ∷ [])
-  pub greater : Pushes (pop_is GreaterThan five) (test 2 comparisons.GreaterThan (integer (pos 5)) ∷ [])
-  pub at_least : Pushes (pop_is GreaterOrEqual five) (test 2 comparisons.GreaterOrEqual (integer (pos 5)) ∷ [])
-  pub less : Pushes (pop_is LessThan five) (test 2 comparisons.LessThan (integer (pos 5)) ∷ [])
-  pub at_most : Pushes (pop_is LessOrEqual five) (test 2 comparisons.LessOrEqual (integer (pos 5)) ∷ [])
+  pub equal : Pushes (pop_is Equal five) (test 2 Equal (integer (pos 5)) ∷ [])
+  pub not_equal : Pushes (pop_is NotEqual five) (test 2 NotEqual (integer (pos 5)) ∷ [])
+  pub greater : Pushes (pop_is GreaterThan five) (test 2 GreaterThan (integer (pos 5)) ∷ [])
+  pub at_least : Pushes (pop_is GreaterOrEqual five) (test 2 GreaterOrEqual (integer (pos 5)) ∷ [])
+  pub less : Pushes (pop_is LessThan five) (test 2 LessThan (integer (pos 5)) ∷ [])
+  pub at_most : Pushes (pop_is LessOrEqual five) (test 2 LessOrEqual (integer (pos 5)) ∷ [])
   -- `Pop gt -5` and `Pop eq null`
-  pub below_zero : Pushes (pop_is GreaterThan (typed.negated five)) (test 2 comparisons.GreaterThan (integer (neg_ℤ (pos 5))) ∷ [])
-  pub of_null : Pushes never_counted (test 2 comparisons.Equal null ∷ [])
+  pub below_zero : Pushes (pop_is GreaterThan (typed.negated five)) (test 2 GreaterThan (integer (neg_ℤ (pos 5))) ∷ [])
+  pub of_null : Pushes never_counted (test 2 Equal null ∷ [])
   -- `Name eq 'Oslo'`, `Open eq true`, `Since lt 2024-02-29`
-  pub of_text : Pushes in_oslo (test 1 comparisons.Equal (text (codes "Oslo")) ∷ [])
-  pub of_truth : Pushes (typed.compare_truths Equal (typed.truth_column 3) (typed.truth_literal true)) (test 3 comparisons.Equal (boolean true) ∷ [])
+  pub of_text : Pushes in_oslo (test 1 Equal (text (codes "Oslo")) ∷ [])
+  pub of_truth : Pushes (typed.compare_truths Equal (typed.truth_column 3) (typed.truth_literal true)) (test 3 Equal (boolean true) ∷ [])
   pub of_date : Pushes (typed.compare_numbers LessThan (number_of_date (typed.date_column 4)) (number_of_date (typed.date_literal (record { year = pos 2024; month = 2; day = 29 }))))
-      (test 4 comparisons.LessThan (date (pos 2024) 2 29) ∷ [])
+      (test 4 LessThan (date (pos 2024) 2 29) ∷ [])
   -- of the prices `Price gt 2.5`, `Price gt -2.5` and `Price gt 10`
-  pub of_decimal : Pushes (price_is (typed.number_literal (pos 2_500_000))) (test 1 comparisons.GreaterThan (decimal (pos 2_500_000)) ∷ [])
-  pub below_zero_too : Pushes (price_is (typed.negated (typed.number_literal (pos 2_500_000)))) (test 1 comparisons.GreaterThan (decimal (neg_ℤ (pos 2_500_000))) ∷ [])
-  pub whole : Pushes (price_is (typed.scaled (typed.number_literal (pos 10)))) (test 1 comparisons.GreaterThan (decimal (pos 10_000_000)) ∷ [])
+  pub of_decimal : Pushes (price_is (typed.number_literal (pos 2_500_000))) (test 1 GreaterThan (decimal (pos 2_500_000)) ∷ [])
+  pub below_zero_too : Pushes (price_is (typed.negated (typed.number_literal (pos 2_500_000)))) (test 1 GreaterThan (decimal (neg_ℤ (pos 2_500_000))) ∷ [])
+  pub whole : Pushes (price_is (typed.scaled (typed.number_literal (pos 10)))) (test 1 GreaterThan (decimal (pos 10_000_000)) ∷ [])
   -- `Pop gt Id`, `5 lt Pop` and `not (Pop gt 5)`
   pub of_columns : Pushes (pop_is GreaterThan (typed.number_column numbers.Integer 0)) []
   pub turned : Pushes (typed.compare_numbers LessThan five (typed.number_column numbers.Integer 2)) []
   pub opposite : Pushes (typed.negation populous) []
   -- `Pop gt 5 and Name eq 'Oslo'`, `Pop gt 5 or Name eq 'Oslo'`, and `Pop gt 5 and 10 div (Id sub 1) gt 0`, which may divide by zero
-  pub joined : Pushes (typed.conjunction populous in_oslo) (test 2 comparisons.GreaterThan (integer (pos 5)) ∷ test 1 comparisons.Equal (text (codes "Oslo")) ∷ [])
+  pub joined : Pushes (typed.conjunction populous in_oslo) (test 2 GreaterThan (integer (pos 5)) ∷ test 1 Equal (text (codes "Oslo")) ∷ [])
   pub either : Pushes (typed.disjunction populous in_oslo) []
   pub faulty : Pushes (typed.conjunction populous divided) []
   -- `$apply=filter(Id gt 9)&$filter=Pop gt 5`, and `$apply=groupby((Id))&$filter=Id gt 9`
   pub applied : pushed_tests (record every { apply = filter_rows beyond ∷ []; filter = Some populous })
-      ≡ test 0 comparisons.GreaterThan (integer (pos 9)) ∷ test 2 comparisons.GreaterThan (integer (pos 5)) ∷ []
+      ≡ test 0 GreaterThan (integer (pos 9)) ∷ test 2 GreaterThan (integer (pos 5)) ∷ []
   pub grouped : pushed_tests (record every { apply = group_rows (0 ∷ []) [] ∷ []; filter = Some beyond }) ≡ []
 
 -- ---- blocks

@@ -7,12 +7,12 @@ ghost use Rattle.query_plan.specs.Tests.{compared_with, literal_number, number_v
 
 use crate::scan::ColumnTest;
 use block_summary::Test;
-use cell_types::Value;
+use cell_types::{ComparisonOperator, NumberKind, Value};
 use odata_types::{MOST_SIZE, scaled};
 use std::alloc::{AllocError, Global};
 use std::borrow::CowStr;
-use typed_trees::{ComparisonOperator, MILLIONTHS, NumberExpr, NumberKind, TextExpr, TruthExpr};
-use zone_maps::{comparison_of, number_value};
+use typed_trees::{MILLIONTHS, NumberExpr, TextExpr, TruthExpr};
+use zone_maps::number_value;
 
 /// Returns a number after a `-`, if it is at most 2 to the 126 in size.
 fn opposite(number: i128) -> Option<Option<i128>>
@@ -110,7 +110,7 @@ fn column_test(
         Some(literal) => Some(ColumnTest {
             column,
             test: Test {
-                op: comparison_of(operator),
+                op: operator,
                 literal,
             },
         }),

@@ -1,32 +1,56 @@
 //! Columns of blocks, summaries of blocks, and the tests that they admit.
 ghost use Rattle.std.specs.Prelude.{◌≡◌, IfOk, length};
 
-use block_summary::{Comparison, PackedColumn, PackedType, Summary, Test, admits};
-use cell_types::Value;
+use block_summary::{PackedColumn, Summary, Test, admits};
+use cell_types::{ComparisonOperator, NumberKind, Value};
 use std::alloc::AllocError;
 use std::process::Abort;
 use std::test::Fail;
 
 /// A comparison of an integer or null with each column of the rows `1 null null`, `5 null 3`, and which of the columns it admits.
-type Case = (Comparison, Option<i64>, [bool; 3]);
+type Case = (ComparisonOperator, Option<i64>, [bool; 3]);
 
 const CASES: &[Case] = &[
-    (Comparison::Equal, Some(3), [true, false, true]),
-    (Comparison::Equal, Some(6), [false, false, false]),
-    (Comparison::Equal, None, [false, true, true]),
-    (Comparison::NotEqual, Some(3), [true, true, true]),
-    (Comparison::NotEqual, None, [true, false, true]),
-    (Comparison::GreaterThan, Some(3), [true, false, false]),
-    (Comparison::GreaterThan, Some(5), [false, false, false]),
-    (Comparison::GreaterThan, None, [false, false, false]),
-    (Comparison::GreaterOrEqual, Some(5), [true, false, false]),
-    (Comparison::GreaterOrEqual, None, [false, true, true]),
-    (Comparison::LessThan, Some(1), [false, false, false]),
-    (Comparison::LessThan, Some(3), [true, false, false]),
-    (Comparison::LessThan, None, [false, false, false]),
-    (Comparison::LessOrEqual, Some(1), [true, false, false]),
-    (Comparison::LessOrEqual, Some(3), [true, false, true]),
-    (Comparison::LessOrEqual, None, [false, true, true]),
+    (ComparisonOperator::Equal, Some(3), [true, false, true]),
+    (ComparisonOperator::Equal, Some(6), [false, false, false]),
+    (ComparisonOperator::Equal, None, [false, true, true]),
+    (ComparisonOperator::NotEqual, Some(3), [true, true, true]),
+    (ComparisonOperator::NotEqual, None, [true, false, true]),
+    (
+        ComparisonOperator::GreaterThan,
+        Some(3),
+        [true, false, false],
+    ),
+    (
+        ComparisonOperator::GreaterThan,
+        Some(5),
+        [false, false, false],
+    ),
+    (ComparisonOperator::GreaterThan, None, [false, false, false]),
+    (
+        ComparisonOperator::GreaterOrEqual,
+        Some(5),
+        [true, false, false],
+    ),
+    (
+        ComparisonOperator::GreaterOrEqual,
+        None,
+        [false, true, true],
+    ),
+    (ComparisonOperator::LessThan, Some(1), [false, false, false]),
+    (ComparisonOperator::LessThan, Some(3), [true, false, false]),
+    (ComparisonOperator::LessThan, None, [false, false, false]),
+    (
+        ComparisonOperator::LessOrEqual,
+        Some(1),
+        [true, false, false],
+    ),
+    (
+        ComparisonOperator::LessOrEqual,
+        Some(3),
+        [true, false, true],
+    ),
+    (ComparisonOperator::LessOrEqual, None, [false, true, true]),
 ];
 
 /// Returns the summary of the two rows.
@@ -41,7 +65,7 @@ fn summary_of(rt: &(impl Abort + AllocGlobal)) -> Result<Summary, AllocError>
 }
 
 /// Returns which columns a test admits.
-fn admitted(summary: &Summary, op: Comparison, literal: Option<i64>) -> [bool; 3]
+fn admitted(summary: &Summary, op: ComparisonOperator, literal: Option<i64>) -> [bool; 3]
     requires { length summary.now ≡ 3 }
 {
     let test = Test {
@@ -80,7 +104,7 @@ const NUMBERS_OF_ROWS: &[Option<i64>] = &[Some(i64::MIN), None, Some(i64::MAX), 
 
 #[test]
 fn numbers_of_rows(rt: HostRuntime) -> Result<(), Fail> {
-    let column = PackedColumn::pack(rt.alloc(), PackedType::Integer, &NUMBERS, &NULLS)?;
+    let column = PackedColumn::pack(rt.alloc(), NumberKind::Integer, &NUMBERS, &NULLS)?;
     for (row, number) in NUMBERS_OF_ROWS.iter().enumerate() {
         assert!(rt; column.number(row) == *number, "row {row}");
     }

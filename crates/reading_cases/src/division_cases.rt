@@ -1,5 +1,6 @@
 //! Which expressions can divide by zero: exactly those in which a `div` or `mod` (OData 4.01 URL Conventions, section 5.1.1.2) has a right side other
 //! than a number literal that is not zero, one `-` before it allowed.
+use cell_types::{ColumnKind, NumberKind};
 use odata_lex::lex;
 use odata_parse::parse_filter;
 use odata_types::{COLUMN_SIZE, ColumnType, InputColumn, can_fault, typed_expr};
@@ -10,15 +11,24 @@ use std::test::Fail;
 const COLUMNS: [InputColumn<'static>; 3] = [
     InputColumn {
         name: "Id",
-        column_type: ColumnType::Integer(COLUMN_SIZE),
+        column_type: ColumnType {
+            kind: ColumnKind::Number(NumberKind::Integer),
+            size: COLUMN_SIZE,
+        },
     },
     InputColumn {
         name: "Name",
-        column_type: ColumnType::Text,
+        column_type: ColumnType {
+            kind: ColumnKind::Text,
+            size: COLUMN_SIZE,
+        },
     },
     InputColumn {
         name: "Since",
-        column_type: ColumnType::Date,
+        column_type: ColumnType {
+            kind: ColumnKind::Number(NumberKind::Date),
+            size: COLUMN_SIZE,
+        },
     },
 ];
 

@@ -3,7 +3,8 @@ use Rattle.std.proofs.Common.{◌≡◌, ◌<◌, ℕ, List, [], ◌++◌, Vec, 
 use Rattle.std.proofs.lemmas.List.{get_or-map}
 use Rattle.cell_types.specs.Value.{CellValue}
 use Rattle.reply_text.specs.Json.{comma_before, json_member, member_head, AreHeads}
-use Rattle.reply_values.specs.Json.{json_text, json_value}
+use Rattle.reply_values.specs.Json.{json_text}
+use Rattle.reply_values.specs.Printed.{json_value}
 
 pub head_there : {A : Type 0} (names : List (List ℕ)) (heads : List (Vec ℕ A)) (col : ℕ) (head : Vec ℕ A) → AreHeads names heads → col < length names → head ≡ get_or heads col head
     → head.items ≡ member_head col (get_or names col [])

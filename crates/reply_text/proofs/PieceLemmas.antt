@@ -1,5 +1,5 @@
 -- The pieces of bodies of rows: which is at a place, and that all of them are the body.
-use Rattle.std.proofs.Common.{◌≡◌, ℕ, zero, suc, ◌+◌, ◌<◌, List, [], ◌∷◌, ◌++◌, codes, get_or, length, map, refl, sym, ap, ◌∙◌, add-one, arith, tests, append_assoc, length-append}
+use Rattle.std.proofs.Common.{◌≡◌, ℕ, zero, suc, ◌+◌, ◌-◌, ◌<◌, ◌≤◌, List, [], ◌∷◌, ◌++◌, codes, get_or, length, map, refl, sym, ap, ◌∙◌, add-one, arith, tests, append_assoc, length-append}
 use Rattle.std.specs.List.{AllByRecursion, concat, flat_map, join_with_byte}
 use Rattle.std.proofs.lemmas.List.{append-nil, get_or-map, length-map}
 use Rattle.cell_types.specs.Value.{CellValue}
@@ -8,7 +8,7 @@ use Rattle.reply_text.specs.Body.{rows_text}
 use Rattle.reply_text.specs.Csv.{csv_line, csv_text, row_line}
 use Rattle.reply_text.specs.Json.{comma_before, json_row}
 use Rattle.reply_text.specs.Pieces.{csv_pieces, json_items, json_opening, json_pieces}
-use Rattle.reply_values.specs.Csv.{csv_value}
+use Rattle.reply_values.specs.Printed.{csv_value}
 
 -- ---- which is at a place
 
@@ -40,11 +40,30 @@ json_at rows row inside = ap (λ n. get_or (json_pieces rows) n []) (add-one row
 pub json_end : (rows : RowsOf) → get_or (json_pieces rows) (length rows.rows + 1) [] ≡ codes "]}"
 json_end rows = ap (λ n. get_or (json_pieces rows) n []) (add-one (length rows.rows)) ∙ end_at rows.names 0 rows.rows
 
+-- the same by the number of the piece
+pub json_piece : (rows : RowsOf) (number : ℕ) → 0 < number → number - 1 < length rows.rows
+    → get_or (json_pieces rows) number [] ≡ comma_before (number - 1) ++ json_row rows.names (get_or rows.rows (number - 1) [])
+json_piece rows number some inside =
+    let same : number ≡ number - 1 + 1 = omega (arith, some) in
+    ap (λ n. get_or (json_pieces rows) n []) same ∙ json_at rows (number - 1) inside
+
+pub json_last : (rows : RowsOf) (number : ℕ) → 0 < number → length rows.rows ≤ number - 1 → number < length (json_pieces rows) → get_or (json_pieces rows) number [] ≡ codes "]}"
+json_last rows number some past inside =
+    let same : number ≡ length rows.rows + 1 = omega (arith, some, past, inside, items_count rows.names 0 rows.rows) in
+    ap (λ n. get_or (json_pieces rows) n []) same ∙ json_end rows
+
 pub csv_at : (rows : RowsOf) (row : ℕ) → row < length rows.rows → get_or (csv_pieces rows) (row + 1) [] ≡ row_line (get_or rows.rows row [])
 csv_at rows row inside = ap (λ n. get_or (csv_pieces rows) n []) (add-one row) ∙ get_or-map row_line rows.rows row [] [] inside
 
 pub csv_count : (rows : RowsOf) → length (csv_pieces rows) ≡ length rows.rows + 1
 csv_count rows = omega (arith, length-map rows.rows row_line)
+
+pub csv_piece : (rows : RowsOf) (number : ℕ) → 0 < number → number < length (csv_pieces rows)
+    → (number - 1 < length rows.rows) × (get_or (csv_pieces rows) number [] ≡ row_line (get_or rows.rows (number - 1) []))
+csv_piece rows number some within =
+    let inside : number - 1 < length rows.rows = omega (arith, some, within, csv_count rows) in
+    let same : number ≡ number - 1 + 1 = omega (arith, some) in
+    (inside, ap (λ n. get_or (csv_pieces rows) n []) same ∙ csv_at rows (number - 1) inside)
 
 -- ---- none is empty
 

@@ -14,7 +14,8 @@ use Rattle.result_rows.specs.Rows.{RowsOf}
 use Rattle.jiff_fmt.specs.Text.{year_text, pad2}
 use Rattle.reply_values.specs.Value.{bool_text, day_text}
 use Rattle.reply_text.specs.Csv.{csv_line, row_line, csv_text}
-use Rattle.reply_values.specs.Csv.{is_quoted_byte, needs_quotes, doubled_byte, csv_value}
+use Rattle.reply_values.specs.Csv.{is_quoted_byte, needs_quotes, doubled_byte}
+use Rattle.reply_values.specs.Printed.{csv_value}
 use Rattle.reply_text.specs.Laws.{value_text, value_is_quoted, is_quoted, IsPlainName, FitCsv, SaysRows}
 
 -- ---- texts of numbers

@@ -12,8 +12,7 @@ use Rattle.reply_text.specs.Pieces.{csv_pieces, json_items, json_opening, json_p
 use Rattle.reply_text.specs.RowSizes.{AreCsvSizes, AreFirstSizes, AreJsonSizes, AreRowsIn, CountFirst, IsObjectFrame}
 use Rattle.cell_texts.specs.Sizes.{frame_at}
 use Rattle.cell_texts.specs.declared.row_sizes.Frame.{Frame}
-use Rattle.reply_values.specs.Csv.{csv_value}
-use Rattle.reply_values.specs.Json.{json_value}
+use Rattle.reply_values.specs.Printed.{csv_value, json_value}
 use Rattle.reply_values.specs.Size.{told}
 use Rattle.reply_text.proofs.BoundLemmas.{sizes_before, sizes_more}
 use Rattle.reply_text.proofs.PieceLemmas.{comma_there, end_at, item_is, items_count}

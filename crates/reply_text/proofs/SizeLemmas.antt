@@ -3,10 +3,10 @@ use Rattle.std.proofs.Common.{◌≡◌, ◌<◌, ◌≤◌, ◌==◌, ℕ, suc,
 use Rattle.std.specs.List.{concat, flat_map, join_with_byte, zip}
 use Rattle.std.proofs.lemmas.List.{take_more}
 use Rattle.reply_text.specs.Csv.{csv_line, row_line}
-use Rattle.reply_values.specs.Csv.{csv_value}
 use Rattle.cell_types.specs.Value.{CellValue}
 use Rattle.reply_text.specs.Json.{comma_before, json_member, json_row}
-use Rattle.reply_values.specs.Json.{json_text, json_value}
+use Rattle.reply_values.specs.Json.{json_text}
+use Rattle.reply_values.specs.Printed.{csv_value, json_value}
 use Rattle.reply_text.specs.Size.{member_name, row_frame}
 use Rattle.reply_values.specs.Size.{told}
 

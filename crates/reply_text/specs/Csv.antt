@@ -4,7 +4,7 @@ use Rattle.std.specs.List.{flat_map, join_with_byte}
 use Rattle.csv_grammar.specs.Bytes.{comma, carriage_return, line_feed}
 use Rattle.cell_types.specs.Value.{CellValue}
 use Rattle.result_rows.specs.Rows.{RowsOf}
-use Rattle.reply_values.specs.Csv.{csv_value}
+use Rattle.reply_values.specs.Printed.{csv_value}
 
 -- a line of fields
 abbrev pub csv_line : List (List ℕ) → List ℕ

@@ -3,7 +3,8 @@ use Rattle.std.specs.Prelude.{◌≡◌, ℕ, ◌<◌, ◌==◌, List, [], ◌++
 use Rattle.std.specs.List.{zip, join_with_byte}
 use Rattle.std.specs.Fmt.{decimal}
 use Rattle.cell_types.specs.Value.{CellValue}
-use Rattle.reply_values.specs.Json.{json_text, json_value}
+use Rattle.reply_values.specs.Json.{json_text}
+use Rattle.reply_values.specs.Printed.{json_value}
 
 -- a member: its name, a colon and its value
 abbrev pub json_member : List ℕ × CellValue → List ℕ

@@ -13,7 +13,7 @@ use Rattle.reply_text.specs.Body.{rows_text}
 use Rattle.reply_text.specs.Csv.{csv_text}
 use Rattle.reply_values.specs.Csv.{needs_quotes}
 use Rattle.reply_text.specs.Json.{json_row}
-use Rattle.reply_values.specs.Json.{json_value}
+use Rattle.reply_values.specs.Printed.{json_value}
 use Rattle.reply_text.specs.Pieces.{csv_pieces, json_pieces}
 use Rattle.reply_values.specs.Size.{told}
 use Rattle.reply_text.specs.JsonTree.{body_of, json_of, object_of, CountFits, FitJson, FitsJson}

@@ -1,7 +1,8 @@
 -- How many bytes the first rows of an answer take.
 use Rattle.std.specs.Prelude.{◌≡◌, ℕ, ◌+◌, ◌<◌, ◌≤◌, Bool, List, [], get_or, length, map, take}
 use Rattle.std.specs.List.{flat_map}
-use Rattle.cell_texts.specs.Sizes.{printed_value, frame_at}
+use Rattle.cell_texts.specs.Sizes.{frame_at}
+use Rattle.reply_values.specs.Printed.{printed_value}
 use Rattle.cell_texts.specs.declared.row_sizes.Frame.{Frame}
 use Rattle.cell_types.specs.Value.{CellValue}
 use Rattle.result_rows.specs.Rows.{RowsOf}

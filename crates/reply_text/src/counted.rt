@@ -3,7 +3,7 @@ ghost use Rattle.std.specs.Prelude.{◌+◌, ◌≤◌, ℕ, List, length};
 ghost use Rattle.reply_text.specs.RowSizes.{AreRowsIn, CountFirst};
 
 use crate::sizes::Sizes;
-use cell_texts::{Frame, none_seen, put_sizes};
+use cell_texts::{Frame, put_sizes};
 use row_columns::Columns;
 
 /// How many rows are counted together.
@@ -21,12 +21,12 @@ fn with_few<const JSON: bool>(
     ensures { (pieces : List (List ℕ)) → AreRowsIn JSON frame columns.now.rows pieces
         → CountFirst first pieces before → CountFirst (first + length room.old) pieces result }
 {
-    let seen = put_sizes::<JSON>(columns, first, frame, room, before.seen);
+    put_sizes::<JSON>(columns, first, frame, room);
     let mut sizes = before;
     for i in 0..room.len() {
         sizes = sizes.with(room[i]);
     }
-    Sizes { seen, ..sizes }
+    sizes
 }
 
 /// Returns the sizes with those of the rows from `first` on.
@@ -40,8 +40,7 @@ pub(crate) fn with_rows<const JSON: bool>(
     ensures { (pieces : List (List ℕ)) → AreRowsIn JSON frame columns.now.rows pieces
         → CountFirst first pieces before → CountFirst (length columns.now.rows) pieces result }
 {
-    let seen = none_seen(columns.len() - first);
-    let mut sizes = Sizes { seen, ..before };
+    let mut sizes = before;
     let mut room = [0; TOGETHER];
     let mut row = first;
     while row < columns.len() {

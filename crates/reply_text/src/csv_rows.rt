@@ -6,7 +6,7 @@ ghost use Rattle.reply_values.specs.Size.{told};
 
 use crate::csv_sizes::name_line_size;
 use crate::put_rows::{put_line, put_name_line};
-use cell_texts::csv_cell_room;
+use cell_texts::row_room;
 use result_rows::Rows;
 use row_columns::Columns;
 use std::alloc::{AllocError, Global};
@@ -28,12 +28,7 @@ fn line_room(columns: &Columns, row: usize) -> usize
     ensures { told (length (row_line (get_or columns.now.rows row []))) ≤ result }
 {
     columns.rows_are_wide();
-    let values = columns.row_ref(row);
-    let mut room = columns.width().saturating_add(2);
-    for col in 0..columns.width() {
-        room = room.saturating_add(csv_cell_room(values.cell(col)));
-    }
-    room
+    row_room::<false>(columns, row, columns.width().saturating_add(2))
 }
 
 /// Appends the row with a number, and its line break.

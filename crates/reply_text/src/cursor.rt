@@ -54,12 +54,13 @@ fn of_pieces(pieces: Pieces, sizes: Sizes) -> Result<BodyCursor, AllocError>
     if sizes.all == usize::MAX {
         return Err(AllocError);
     }
+    let seen = pieces.none_seen();
     Ok(BodyCursor {
         pieces,
         next: 0,
         size: sizes.all,
         longest: sizes.longest,
-        seen: sizes.seen,
+        seen,
     })
 }
 

@@ -8,7 +8,7 @@ ghost use Rattle.reply_values.specs.Size.{told};
 
 use crate::json_sizes::frame_size;
 use crate::put_rows::put_item;
-use cell_texts::json_cell_room;
+use cell_texts::row_room;
 use reply_values::{push_number, push_text};
 use result_rows::Rows;
 use std::alloc::{AllocError, Global};
@@ -53,12 +53,8 @@ fn item_room(rows: &Rows, row: usize, frame: usize) -> usize
     ensures { told (length
         (comma_before row ++ json_row rows.now.names (get_or rows.now.rows row []))) ≤ result }
 {
-    let values = rows.row_ref(row);
-    let mut room = frame.saturating_add(1);
-    for col in 0..rows.width() {
-        room = room.saturating_add(json_cell_room(values.cell(col)));
-    }
-    room
+    let _width = rows.width(); // that of each row
+    row_room::<true>(rows.columns(), row, frame.saturating_add(1))
 }
 
 /// Appends the row with a number, after its comma. A row has `frame` bytes other than its values.

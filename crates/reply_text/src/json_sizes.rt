@@ -22,7 +22,7 @@ fn names_size(names: &[String]) -> usize
     let mut size = 0usize;
     for name in names {
         size = size
-            .saturating_add(text_size(name.as_bytes()))
+            .saturating_add(text_size::<true>(name.as_bytes()))
             .saturating_add(1);
     }
     size

@@ -29,8 +29,7 @@ fn sizes_in_turns(names: &[String], columns: &Columns, turns: &[usize]) -> Sizes
     for row in turns {
         sizes = sizes.with(row_size::<true>(columns, *row, frame.at(*row)));
     }
-    let seen = none_seen(turns.len());
-    Sizes { seen, ..sizes }
+    sizes
 }
 
 /// Returns the sizes of rows, of which some first ones were counted: of all of them, if they stand in another order than their table and are many.
@@ -43,7 +42,7 @@ pub(crate) fn counted_in_turns(
     ensures { IfOk result (λ sizes. HaveJsonSizes sizes rows.now) }
 {
     let columns = rows.columns();
-    if counted.len > 0 || columns.width() <= FEW_COLUMNS || none_seen(columns.len()).is_none() {
+    if counted.len > 0 || columns.width() <= FEW_COLUMNS || none_seen(columns).is_none() {
         return Ok(counted);
     }
     let Some(turns) = columns.turns(alloc)? else {

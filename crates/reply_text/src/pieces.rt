@@ -5,7 +5,7 @@ ghost use Rattle.reply_text.specs.Json.{AreHeads};
 ghost use Rattle.reply_text.specs.Pieces.{csv_pieces, json_pieces};
 
 use crate::put_rows::{put_item, put_line, put_name_line};
-use cell_texts::read_ahead;
+use cell_texts::{none_seen, read_ahead};
 use reply_values::put_piece;
 use result_rows::Rows;
 
@@ -56,11 +56,18 @@ fn put_csv_piece(out: &mut [u8], at: usize, rows: &Rows, number: usize) -> usize
 }
 
 impl Pieces {
-    /// Reads cells of rows from the piece with a number on, as [`read_ahead`] does.
-    pub fn read_ahead(&self, number: usize, seen: Option<u8>) -> Option<u8> {
+    /// Returns what was read of rows before any piece is written, as [`none_seen`] does.
+    pub fn none_seen(&self) -> Option<u8> {
         match self {
-            Pieces::Json(rows, _, _) => read_ahead(rows.columns(), number, seen),
-            Pieces::Csv(rows) => read_ahead(rows.columns(), number, seen),
+            Pieces::Json(rows, _, _) | Pieces::Csv(rows) => none_seen(rows.columns()),
+            Pieces::Bytes(_) => None,
+        }
+    }
+
+    /// Reads cells of rows from the piece `first` on, as [`read_ahead`] does.
+    pub fn read_ahead(&self, first: usize, seen: Option<u8>) -> Option<u8> {
+        match self {
+            Pieces::Json(rows, _, _) | Pieces::Csv(rows) => read_ahead(rows.columns(), first, seen),
             Pieces::Bytes(_) => None,
         }
     }
@@ -76,13 +83,8 @@ impl Pieces {
         ensures end { result ≡ at + length (get_or (body_pieces self.now) number []) }
     {
         match self {
-            Pieces::Json(rows, heads, opening) => {
-                if number == 0 {
-                    put_piece(out, at, opening.as_slice())
-                } else {
-                    put_json(out, at, rows, heads.as_slice(), number)
-                }
-            }
+            Pieces::Json(_, _, opening) if number == 0 => put_piece(out, at, opening.as_slice()),
+            Pieces::Json(rows, heads, _) => put_json(out, at, rows, heads.as_slice(), number),
             Pieces::Csv(rows) => put_csv_piece(out, at, rows, number),
             Pieces::Bytes(bytes) => put_piece(out, at, bytes.as_slice()),
         }

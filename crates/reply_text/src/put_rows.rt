@@ -4,10 +4,9 @@ ghost use Rattle.std.specs.List.{join_with_byte};
 ghost use Rattle.row_columns.specs.Cell.{cell_view};
 ghost use Rattle.reply_text.specs.Csv.{csv_line, row_line};
 ghost use Rattle.reply_text.specs.Json.{comma_before, json_members, json_row, AreHeads};
-ghost use Rattle.reply_values.specs.Csv.{csv_value};
-ghost use Rattle.reply_values.specs.Json.{json_value};
+ghost use Rattle.reply_values.specs.Printed.{csv_value, json_value};
 
-use cell_texts::{put_csv_cell, put_json_cell};
+use cell_texts::put_cell;
 use reply_values::{put_byte, put_piece};
 use result_rows::Rows;
 use row_columns::Cell;
@@ -36,7 +35,7 @@ fn put_member(out: &mut [u8], at: usize, head: &[u8], cell: Cell<'_>) -> usize
     ensures end { result ≡ at + length (head.now ++ json_value (cell_view cell.entry)) }
 {
     let end = put_piece(out, at, head);
-    put_json_cell(out, end, cell)
+    put_cell::<true>(out, end, cell)
 }
 
 /// Writes the members of the row with a number, with a comma between each two.
@@ -91,7 +90,7 @@ fn put_field(out: &mut [u8], at: usize, place: usize, cell: Cell<'_>) -> usize
         ≡ at + length (comma_before place ++ csv_value (cell_view cell.entry)) }
 {
     let end = put_comma(out, at, place);
-    put_csv_cell(out, end, cell)
+    put_cell::<false>(out, end, cell)
 }
 
 /// Writes the values of the row with a number, with a comma between each two.

@@ -7,8 +7,6 @@ ghost use Rattle.reply_values.specs.Size.{told};
 pub struct Sizes {
     pub all: usize,
     pub longest: usize,
-    /// What was read of cells before they were counted.
-    pub seen: Option<u8>,
 }
 
 impl Sizes {
@@ -17,11 +15,7 @@ impl Sizes {
         ensures all { result.all ≡ 0 }
         ensures longest { result.longest ≡ 0 }
     {
-        Sizes {
-            all: 0,
-            longest: 0,
-            seen: None,
-        }
+        Sizes { all: 0, longest: 0 }
     }
 
     /// Adds a piece of `size` bytes.
@@ -32,7 +26,6 @@ impl Sizes {
         Sizes {
             all: self.all.saturating_add(size),
             longest: self.longest.max(size),
-            seen: self.seen,
         }
     }
 }

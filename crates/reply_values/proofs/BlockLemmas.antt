@@ -1,6 +1,6 @@
 -- From the blocks of a text to its first byte that passes a test.
-use Rattle.std.proofs.Common.{◌≡◌, ℕ, zero, suc, ◌+◌, ◌-◌, ◌<◌, ◌≤◌, Bool, true, false, not, ◌||◌, cond, ltb, min, List, [], ◌∷◌, length, take, drop, Some, None, unwrap_or, refl, sym, ap, ◌∙◌, arith, tests}
-use Rattle.std.specs.List.{position, position_or_len, list_any}
+use Rattle.std.proofs.Common.{◌≡◌, ℕ, zero, suc, ◌+◌, ◌-◌, ◌<◌, ◌≤◌, Bool, true, false, not, ◌||◌, cond, ltb, min, List, [], ◌∷◌, length, take, drop, refl, ap, ◌∙◌, arith, tests}
+use Rattle.std.specs.List.{position_or_len, list_any}
 use Rattle.std.proofs.lemmas.List.Sums.{prefix_len-le-length}
 
 pub first_within : (p : ℕ → Bool) (xs : List ℕ) → position_or_len p xs ≤ length xs
@@ -34,13 +34,6 @@ pub block_tells : (p : ℕ → Bool) (xs : List ℕ) (n at r : ℕ) → at ≤ p
 block_tells p xs n at r before is =
     is ∙ first_of_front p (drop at xs) n ∙ ap (min n) (omega (arith, first_of_rest p xs at before))
 
--- the place of the first, or the length
-place_or_len : (k n : ℕ) → k ≤ n → unwrap_or (cond (ltb k n) (Some k) None) n ≡ k
-place_or_len k n h = grind (arith, tests)
-
-pub place_is_first : (p : ℕ → Bool) (xs : List ℕ) → unwrap_or (position p xs) (length xs) ≡ position_or_len p xs
-place_is_first p xs = place_or_len (position_or_len p xs) (length xs) (first_within p xs)
-
 -- whether one passes
 pub any_is_first : (p : ℕ → Bool) (xs : List ℕ) → list_any p xs ≡ ltb (position_or_len p xs) (length xs)
 any_is_first p [] = refl
@@ -65,20 +58,3 @@ first_later p xs n at r before is whole = omega (arith, block_tells p xs n at r 
 pub first_at_last : (p : ℕ → Bool) (xs : List ℕ) (n last r : ℕ) → last ≤ position_or_len p xs → r ≡ position_or_len p (take n (drop last xs))
     → length xs ≡ last + n → position_or_len p xs ≡ last + r
 first_at_last p xs n last r before is long = omega (arith, block_tells p xs n last r before is, first_within p xs)
-
--- the last block tells whether one passes
-pub any_at_last : (p : ℕ → Bool) (xs : List ℕ) (n last r : ℕ) → last ≤ position_or_len p xs → r ≡ position_or_len p (take n (drop last xs))
-    → length xs ≡ last + n → ltb r n ≡ list_any p xs
-any_at_last p xs n last r before is long =
-    alike n r (position_or_len p xs) last (length xs) (first_at_last p xs n last r before is long) long ∙ sym (any_is_first p xs)
-  where
-    alike : (n r first last all : ℕ) → first ≡ last + r → all ≡ last + n → ltb r n ≡ ltb first all
-    alike n r first last all at long = grind (arith, tests)
-
--- one that stands in a block is one
-pub any_here : (p : ℕ → Bool) (xs : List ℕ) (n at r : ℕ) → at ≤ position_or_len p xs → r ≡ position_or_len p (take n (drop at xs)) → r < n
-    → at + n ≤ length xs → true ≡ list_any p xs
-any_here p xs n at r before is short room = alike (position_or_len p xs) (length xs) (omega (arith, first_here p xs n at r before is short, room, short)) ∙ sym (any_is_first p xs)
-  where
-    alike : (first all : ℕ) → first < all → true ≡ ltb first all
-    alike first all h = grind (arith, tests)

@@ -1,6 +1,6 @@
 -- Numbers of bytes that texts do not pass.
 use Rattle.std.specs.Prelude.{FitsSigned}
-use Rattle.std.proofs.Common.{◌≡◌, ℕ, suc, ◌+◌, ◌*◌, ◌/◌, ◌%◌, ◌^◌, ◌<◌, ◌≤◌, ℤ, pos, negsuc, ◌≤ℤ◌, Bool, true, false, cond, eqb, nat_lt, List, [], ◌∷◌, ◌++◌, length, length-append, arith}
+use Rattle.std.proofs.Common.{◌≡◌, ℕ, suc, ◌+◌, ◌*◌, ◌/◌, ◌%◌, ◌^◌, ◌<◌, ◌≤◌, ℤ, pos, negsuc, Bool, true, false, cond, eqb, nat_lt, List, [], ◌∷◌, ◌++◌, length, length-append, arith}
 use Rattle.std.specs.Int.{w64}
 use Rattle.std.specs.Fmt.{decimal, signed_decimal}
 use Rattle.std.specs.List.{flat_map}
@@ -48,10 +48,6 @@ pub signed_few : (z : ℤ) → FitsSigned w64 z → length (signed_decimal z) �
 signed_few (pos n) fits = omega (arith, short_number n (omega (arith, ints, fits)))
 signed_few (negsuc n) fits = omega (arith, short_number (suc n) (omega (arith, ints, fits)))
 
-pub other_few : (z : ℤ) → FitsSigned w64 z → pos 0 ≤ℤ z → length (signed_decimal z) ≤ 20
-other_few (pos n) fits above = short_number n (omega (arith, ints, fits))
-other_few (negsuc n) fits above = absurd (omega (arith, ints, above))
-
 millionths_few : (n : ℕ) → n < 2 ^ 64 → length (millionths_text n) ≤ 21
 millionths_few n fits =
     omega (arith, length-append (decimal (n / 1_000_000)) (fraction_text (n % 1_000_000)), length-decimal-le_wide 14 (n / 1_000_000) (omega arith) (omega (arith, fits)) (omega (arith, fits)), short_fraction (n % 1_000_000))
@@ -60,8 +56,3 @@ pub decimal_few : (z : ℤ) → FitsSigned w64 z → length (decimal_text z) ≤
 unfolding decimal_text
 decimal_few (pos n) fits = omega (arith, millionths_few n (omega (arith, ints, fits)))
 decimal_few (negsuc n) fits = omega (arith, millionths_few (suc n) (omega (arith, ints, fits)))
-
-pub other_decimal_few : (z : ℤ) → FitsSigned w64 z → pos 0 ≤ℤ z → length (decimal_text z) ≤ 21
-unfolding decimal_text
-other_decimal_few (pos n) fits above = millionths_few n (omega (arith, ints, fits))
-other_decimal_few (negsuc n) fits above = absurd (omega (arith, ints, above))

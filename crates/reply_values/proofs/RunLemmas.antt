@@ -1,54 +1,98 @@
--- Texts that need no escape.
-use Rattle.std.proofs.Common.{◌≡◌, ℕ, ◌+◌, Bool, true, false, cond, not, List, [], ◌∷◌, ◌++◌, length, take, drop, unwrap_or, refl, sym, ap, ◌∙◌, arith, append_assoc, tests}
-use Rattle.std.specs.List.{flat_map, position, position_or_len}
+-- Runs of bytes that stand for themselves.
+use Rattle.std.proofs.Common.{◌≡◌, ℕ, ◌+◌, Bool, true, false, ◌||◌, cond, not, List, [], ◌∷◌, ◌++◌, length, take, drop, refl, sym, ap, ◌∙◌, arith, append_assoc, tests, length-append}
+use Rattle.std.specs.List.{flat_map, position_or_len}
 use Rattle.std.proofs.lemmas.List.{take-append-drop, take_all, append-nil, nil_from_length}
 use Rattle.std.proofs.lemmas.List.Concat.{flat_map-append}
-use Rattle.reply_values.specs.Json.{json_escaped, needs_escape}
-use Rattle.reply_values.proofs.BlockLemmas.{place_is_first}
+use Rattle.reply_values.specs.Csv.{doubled_byte, needs_quotes}
+use Rattle.reply_values.specs.Printed.{printed_byte, needs_more, printed_text}
+use Rattle.reply_values.specs.Size.{told}
 
--- a byte that needs no escape stands for itself
-pub escaped_plain : (b : ℕ) → needs_escape b ≡ false → json_escaped b ≡ b ∷ []
-escaped_plain b h = grind (arith, tests)
+escaped_plain : (json : Bool) (b : ℕ) → needs_more json b ≡ false → printed_byte json b ≡ b ∷ []
+escaped_plain true b h = grind (arith, tests)
+escaped_plain false b h = grind (arith, tests)
 
-flat_map_plain_from : (b : ℕ) (bs : List ℕ) (test : Bool) → needs_escape b ≡ test → (n : ℕ) → flat_map json_escaped (take n bs) ≡ take n bs → flat_map json_escaped (take (cond (not test) (1 + n) 0) (b ∷ bs)) ≡ take (cond (not test) (1 + n) 0) (b ∷ bs)
-flat_map_plain_from b bs true e n h = refl
-flat_map_plain_from b bs false e n h =
-    let more : take (1 + n) (b ∷ bs) ≡ b ∷ take n bs = grind arith in rw (more, escaped_plain b e, h) refl
+flat_map_plain_from : (json : Bool) (b : ℕ) (bs : List ℕ) (test : Bool) → needs_more json b ≡ test → (n : ℕ) → flat_map (printed_byte json) (take n bs) ≡ take n bs
+    → flat_map (printed_byte json) (take (cond (not test) (1 + n) 0) (b ∷ bs)) ≡ take (cond (not test) (1 + n) 0) (b ∷ bs)
+flat_map_plain_from json b bs true e n h = refl
+flat_map_plain_from json b bs false e n h =
+    let more : take (1 + n) (b ∷ bs) ≡ b ∷ take n bs = grind arith in rw (more, escaped_plain json b e, h) refl
 
--- what stands before the first byte that needs an escape stands for itself
-flat_map_plain : (bs : List ℕ) → flat_map json_escaped (take (position_or_len needs_escape bs) bs) ≡ take (position_or_len needs_escape bs) bs
-flat_map_plain [] = refl
-flat_map_plain (b ∷ bs) = flat_map_plain_from b bs (needs_escape b) refl (position_or_len needs_escape bs) (flat_map_plain bs)
+abbrev pub run_of : Bool → List ℕ → ℕ
+run_of json bs = position_or_len (needs_more json) bs
 
-abbrev pub run_of : List ℕ → ℕ
-run_of bs = unwrap_or (position needs_escape bs) (length bs)
-
-place_of_run : (bs : List ℕ) → run_of bs ≡ position_or_len needs_escape bs
-place_of_run bs = place_is_first needs_escape bs
-
-pub plain_run : (bs : List ℕ) → flat_map json_escaped (take (run_of bs) bs) ≡ take (run_of bs) bs
-plain_run bs = rw place_of_run (flat_map_plain bs)
+-- what stands before the first byte that does not stand for itself
+pub plain_run : (json : Bool) (bs : List ℕ) → flat_map (printed_byte json) (take (run_of json bs) bs) ≡ take (run_of json bs) bs
+plain_run json [] = refl
+plain_run json (b ∷ bs) = flat_map_plain_from json b bs (needs_more json b) refl (run_of json bs) (plain_run json bs)
 
 -- a text that is one run stands for itself
-pub all_plain : (bs : List ℕ) → run_of bs ≡ length bs → flat_map json_escaped bs ≡ bs
-all_plain bs whole =
-    let front : take (run_of bs) bs ≡ bs = take_all (run_of bs) bs (omega (arith, whole)) in rw front at (plain_run bs)
+pub all_plain : (json : Bool) (bs : List ℕ) → run_of json bs ≡ length bs → flat_map (printed_byte json) bs ≡ bs
+all_plain json bs whole =
+    let front : take (run_of json bs) bs ≡ bs = take_all (run_of json bs) bs (omega (arith, whole)) in rw front at (plain_run json bs)
 
-pub run_and_rest : (bs : List ℕ) → flat_map json_escaped bs ≡ take (run_of bs) bs ++ flat_map json_escaped (drop (run_of bs) bs)
-run_and_rest bs =
-    let whole = take-append-drop (run_of bs) bs in
-    ap (flat_map json_escaped) (sym whole) ∙ flat_map-append json_escaped (take (run_of bs) bs) (drop (run_of bs) bs) ∙ ap (λ run. run ++ flat_map json_escaped (drop (run_of bs) bs)) (plain_run bs)
+run_and_rest : (json : Bool) (bs : List ℕ) → flat_map (printed_byte json) bs ≡ take (run_of json bs) bs ++ flat_map (printed_byte json) (drop (run_of json bs) bs)
+run_and_rest json bs =
+    let whole = take-append-drop (run_of json bs) bs in
+    ap (flat_map (printed_byte json)) (sym whole) ∙ flat_map-append (printed_byte json) (take (run_of json bs) bs) (drop (run_of json bs) bs)
+    ∙ ap (λ run. run ++ flat_map (printed_byte json) (drop (run_of json bs) bs)) (plain_run json bs)
 
--- a step of writing: the run is written, and what follows it is left
-write_run : (out rest run tail whole : List ℕ) (k : ℕ) → k ≡ run_of rest → run ≡ take k rest → tail ≡ drop k rest → out ++ flat_map json_escaped rest ≡ whole → (out ++ run) ++ flat_map json_escaped tail ≡ whole
-write_run out rest run tail whole k place front back before = rw (append_assoc, front, back, place, ← run_and_rest rest) before
+-- ---- a run is written, and what follows it is left
 
-pub write_last : (out rest run tail whole now : List ℕ) (k : ℕ) → k ≡ run_of rest → run ≡ take k rest → tail ≡ drop k rest → out ++ flat_map json_escaped rest ≡ whole → length tail ≡ 0 → now ≡ out ++ run → now ≡ whole
-write_last out rest run tail whole now k place front back before empty items =
-    let step : (out ++ run) ++ flat_map json_escaped tail ≡ whole = write_run out rest run tail whole k place front back before in
+write_run : (json : Bool) (out rest run tail whole : List ℕ) (k : ℕ) → k ≡ run_of json rest → run ≡ take k rest → tail ≡ drop k rest → out ++ flat_map (printed_byte json) rest ≡ whole
+    → (out ++ run) ++ flat_map (printed_byte json) tail ≡ whole
+write_run json out rest run tail whole k place front back before = rw (append_assoc, front, back, place, ← run_and_rest json rest) before
+
+pub write_last : (json : Bool) (out rest run tail whole now : List ℕ) (k : ℕ) → k ≡ run_of json rest → run ≡ take k rest → tail ≡ drop k rest → out ++ flat_map (printed_byte json) rest ≡ whole
+    → length tail ≡ 0 → now ≡ out ++ run → now ≡ whole
+write_last json out rest run tail whole now k place front back before empty items =
+    let step : (out ++ run) ++ flat_map (printed_byte json) tail ≡ whole = write_run json out rest run tail whole k place front back before in
     items ∙ sym (append-nil (out ++ run)) ∙ rw (nil_from_length tail empty) at step
 
-pub write_more : (out rest run tail whole between now others : List ℕ) (byte k : ℕ) → k ≡ run_of rest → run ≡ take k rest → tail ≡ drop k rest → out ++ flat_map json_escaped rest ≡ whole → tail ≡ byte ∷ others → between ≡ out ++ run → now ≡ between ++ json_escaped byte → now ++ flat_map json_escaped others ≡ whole
-write_more out rest run tail whole between now others byte k place front back before cases items after =
-    let step : (out ++ run) ++ flat_map json_escaped tail ≡ whole = write_run out rest run tail whole k place front back before in
+pub write_more : (json : Bool) (out rest run tail whole between now others : List ℕ) (byte k : ℕ) → k ≡ run_of json rest → run ≡ take k rest → tail ≡ drop k rest
+    → out ++ flat_map (printed_byte json) rest ≡ whole → tail ≡ byte ∷ others → between ≡ out ++ run → now ≡ between ++ printed_byte json byte → now ++ flat_map (printed_byte json) others ≡ whole
+write_more json out rest run tail whole between now others byte k place front back before cases items after =
+    let step : (out ++ run) ++ flat_map (printed_byte json) tail ≡ whole = write_run json out rest run tail whole k place front back before in
     rw (after, items, append_assoc) (rw cases at step)
+
+-- ---- a run is counted, and what follows it is left
+
+pub run_counted : (json : Bool) (rest run tail : List ℕ) (k : ℕ) → k ≡ run_of json rest → run ≡ take k rest → tail ≡ drop k rest
+    → length (flat_map (printed_byte json) rest) ≡ length run + length (flat_map (printed_byte json) tail)
+run_counted json rest run tail k place front back =
+    rw (front, back, place) (ap length (run_and_rest json rest) ∙ length-append (take (run_of json rest) rest) (flat_map (printed_byte json) (drop (run_of json rest) rest)))
+
+pub last_run : (json : Bool) (rest run tail : List ℕ) (k size mid whole : ℕ) → k ≡ run_of json rest → run ≡ take k rest → tail ≡ drop k rest
+    → told (size + length (flat_map (printed_byte json) rest)) ≡ whole → mid ≡ told (size + length run) → length tail ≡ 0 → mid ≡ whole
+last_run json rest run [] k size mid whole place front back before mid_is empty = omega (arith, run_counted json rest run [] k place front back, before, mid_is)
+last_run json rest run (byte ∷ tail) k size mid whole place front back before mid_is empty = absurd (omega (arith, empty))
+
+-- the run and the byte after it are counted, and what follows them is left
+pub byte_counted : (json : Bool) (rest run tail others : List ℕ) (byte k : ℕ) → k ≡ run_of json rest → run ≡ take k rest → tail ≡ drop k rest → tail ≡ byte ∷ others
+    → length (flat_map (printed_byte json) rest) ≡ length run + (length (printed_byte json byte) + length (flat_map (printed_byte json) others))
+byte_counted json rest run tail others byte k place front back cases =
+    run_counted json rest run tail k place front back ∙ ap (λ l. length run + length (flat_map (printed_byte json) l)) cases
+    ∙ ap (λ n. length run + n) (length-append (printed_byte json byte) (flat_map (printed_byte json) others))
+
+pub one_run : (json : Bool) (rest run tail others : List ℕ) (byte k size mid after whole : ℕ) → k ≡ run_of json rest → run ≡ take k rest → tail ≡ drop k rest
+    → told (size + length (flat_map (printed_byte json) rest)) ≡ whole → mid ≡ told (size + length run) → tail ≡ byte ∷ others → after ≡ told (mid + length (printed_byte json byte))
+    → told (after + length (flat_map (printed_byte json) others)) ≡ whole
+one_run json rest run tail others byte k size mid after whole place front back before mid_is cases after_is =
+    omega (arith, byte_counted json rest run tail others byte k place front back cases, before, mid_is, after_is)
+
+-- ---- double quotes
+
+pub quoted_text : (json : Bool) (bytes : List ℕ) → (json || needs_quotes bytes) ≡ true → printed_text json bytes ≡ 34 ∷ (flat_map (printed_byte json) bytes ++ 34 ∷ [])
+quoted_text true bytes is = refl
+quoted_text false bytes is = by (needs_quotes bytes) is
+  where
+    by : (t : Bool) → t ≡ true → cond t (34 ∷ (flat_map doubled_byte bytes ++ 34 ∷ [])) bytes ≡ 34 ∷ (flat_map doubled_byte bytes ++ 34 ∷ [])
+    by true e = refl
+    by false e = cc
+
+pub plain_text : (json : Bool) (bytes : List ℕ) → (json || needs_quotes bytes) ≡ false → printed_text json bytes ≡ bytes
+plain_text true bytes is = cc
+plain_text false bytes is = by (needs_quotes bytes) is
+  where
+    by : (t : Bool) → t ≡ false → cond t (34 ∷ (flat_map doubled_byte bytes ++ 34 ∷ [])) bytes ≡ bytes
+    by true e = cc
+    by false e = refl

@@ -1,11 +1,6 @@
--- The texts of values in JSON (RFC 8259) that answers are written in, with no space between tokens (OData JSON Format 4.01, sections 4.5 and 21).
+-- Texts in JSON (RFC 8259), with no space between tokens (OData JSON Format 4.01, sections 4.5 and 21).
 use Rattle.std.specs.Prelude.{ℕ, ◌+◌, ◌/◌, ◌%◌, ◌==◌, Bool, ◌||◌, List, [], ◌∷◌, ◌++◌, nat_lt, if◌then◌else◌, codes}
 use Rattle.std.specs.List.{flat_map}
-use Rattle.std.specs.Fmt.{signed_decimal}
-use Rattle.cell_types.specs.Decimal.{decimal_text}
-use Rattle.cell_types.specs.Value as cell
-use Rattle.cell_types.specs.Value.{CellValue, null, integer, text, boolean, date}
-use Rattle.reply_values.specs.Value.{bool_text, day_text}
 
 abbrev pub quote : ℕ
 quote = 34
@@ -41,12 +36,3 @@ json_text bytes = quote ∷ flat_map json_escaped bytes ++ quote ∷ []
 -- a member whose value is a text
 abbrev pub json_text_member : List ℕ → List ℕ → List ℕ
 json_text_member name bytes = json_text name ++ codes ":" ++ json_text bytes
-
--- a value
-abbrev pub json_value : CellValue → List ℕ
-json_value null = codes "null"
-json_value (integer number) = signed_decimal number
-json_value (text bytes) = json_text bytes
-json_value (boolean truth) = bool_text truth
-json_value (date year month day) = quote ∷ [] ++ day_text year month day ++ quote ∷ []
-json_value (cell.decimal millionths) = decimal_text millionths

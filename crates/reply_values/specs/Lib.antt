@@ -1,4 +1,5 @@
 pub mod Value
 pub mod Json
 pub mod Csv
+pub mod Printed
 pub mod Size

@@ -1,12 +1,7 @@
-//! The texts of decimals, which JSON and CSV write alike.
-ghost use Rattle.std.specs.Prelude.{◌≡◌, ◌+◌, ◌++◌, ◌<◌, ◌≤◌, OnErr, OnOk, length, vec_capacity, vec_len};
+//! Digits, and those of decimals.
+ghost use Rattle.std.specs.Prelude.{◌≡◌, ◌<◌};
 ghost use Rattle.cell_types.specs.Date.{four_digits as digits_of_four, two_digits as digits_of_two};
-ghost use Rattle.cell_types.specs.Decimal.{decimal_text, fraction_text, millionths_text, six_digits as digits_of_six, without_last_zeros as without_last_zeros_of};
-
-use crate::digits::decimal_size;
-use crate::put_numbers::put_decimal;
-use crate::room::make_room;
-use std::alloc::AllocError;
+ghost use Rattle.cell_types.specs.Decimal.{six_digits as digits_of_six, without_last_zeros as without_last_zeros_of};
 
 /// How many millionths are one.
 pub const ONE: u64 = 1_000_000;
@@ -51,18 +46,4 @@ pub fn without_last_zeros(digits: &[u8]) -> &[u8]
         len -= 1;
     }
     &digits[..len]
-}
-
-/// Appends a decimal of that many millionths: a `-` if it is negative, the whole part, and if the fraction is not 0 a point and
-/// the decimal places as far as the last that is not 0.
-pub fn push_decimal(out: &mut Vec<u8>, millionths: i128) -> Result<(), AllocError>
-    ensures bytes { OnOk result (out.new.items ≡ out.old.items ++ decimal_text millionths) }
-    ensures room { vec_capacity out.old ≤ vec_capacity out.new }
-    ensures full { OnErr result
-        (vec_capacity out.old < vec_len out.old + length (decimal_text millionths)) }
-{
-    let at = make_room(out, decimal_size(millionths))?;
-    let end = put_decimal(out.as_mut_slice(), at, millionths);
-    out.truncate(end);
-    Ok(())
 }

@@ -1,8 +1,9 @@
 //! How many bytes the texts of values take that JSON and CSV write alike. None is written.
-ghost use Rattle.std.specs.Prelude.{◌≡◌, ◌<◌, length};
+ghost use Rattle.std.specs.Prelude.{◌≡◌, ◌<◌, ◌≤◌, length};
 ghost use Rattle.std.specs.Fmt.{decimal, signed_decimal};
 ghost use Rattle.jiff_fmt.specs.Text.{date_text};
 ghost use Rattle.cell_types.specs.Decimal.{decimal_text, fraction_text, millionths_text};
+ghost use Rattle.reply_values.specs.Printed.{printed_date};
 ghost use Rattle.reply_values.specs.Value.{bool_text};
 
 use crate::decimal::{ONE, six_digits, without_last_zeros};
@@ -94,9 +95,21 @@ pub fn bool_size(truth: bool) -> usize
     if truth { 4 } else { 5 }
 }
 
-/// Returns how many bytes a date takes: `yyyy-MM-dd`, and three more for a negative year.
-pub fn date_size(date: Date) -> usize
-    ensures { result ≡ length (date_text date) }
+/// Returns how many bytes a date takes: `yyyy-MM-dd`, three more for a negative year, and in JSON two for its double quotes.
+pub fn date_size<const JSON: bool>(date: Date) -> usize
+    ensures { result ≡ length (printed_date JSON (date_text date)) }
 {
-    if date.year < 0 { 13 } else { 10 }
+    let day = if date.year < 0 { 13 } else { 10 };
+    if JSON { day + 2 } else { day }
+}
+
+/// Returns a number of bytes that no whole number of 64 bits passes, and no decimal of as many millionths.
+#[inline(always)]
+#[tactic(auto, using(crate::proofs::RoomLemmas::signed_few, crate::proofs::RoomLemmas::decimal_few))]
+pub fn number_room(number: i64) -> usize
+    ensures integer { length (signed_decimal number) ≤ result }
+    ensures decimal { length (decimal_text number) ≤ result }
+{
+    let _ = number;
+    22
 }

@@ -3,6 +3,7 @@ ghost use Rattle.std.specs.Prelude.{◌≡◌, ◌+◌, ◌++◌, ◌<◌, ◌�
 ghost use Rattle.std.specs.Fmt.{decimal, signed_decimal};
 ghost use Rattle.jiff_fmt.specs.Text.{date_text};
 ghost use Rattle.cell_types.specs.Decimal.{decimal_text, fraction_text, millionths_text};
+ghost use Rattle.reply_values.specs.Printed.{printed_date};
 ghost use Rattle.reply_values.specs.Value.{bool_text};
 
 use crate::decimal::{ONE, four_digits, six_digits, two_digits, without_last_zeros};
@@ -144,7 +145,7 @@ pub fn put_bool(out: &mut [u8], at: usize, truth: bool) -> usize
 
 /// Writes a date as `yyyy-MM-dd`, or with a `-` and six digits of the year if that is negative.
 #[inline(always)]
-pub fn put_date(out: &mut [u8], at: usize, date: Date) -> usize
+fn put_day(out: &mut [u8], at: usize, date: Date) -> usize
     requires { at + length (date_text date) ≤ length out.old }
     ensures long { length out.new ≡ length out.old }
     ensures bytes { take result out.new ≡ take at out.old ++ date_text date }
@@ -165,4 +166,20 @@ pub fn put_date(out: &mut [u8], at: usize, date: Date) -> usize
     } else {
         put_block::<10>(out, at, &[a, b, c, d, b'-', e, f, b'-', g, h], 10)
     }
+}
+
+/// Writes a date, in JSON in double quotes.
+#[inline(always)]
+pub fn put_date<const JSON: bool>(out: &mut [u8], at: usize, date: Date) -> usize
+    requires { at + length (printed_date JSON (date_text date)) ≤ length out.old }
+    ensures long { length out.new ≡ length out.old }
+    ensures bytes { take result out.new ≡ take at out.old ++ printed_date JSON (date_text date) }
+    ensures end { result ≡ at + length (printed_date JSON (date_text date)) }
+{
+    if !JSON {
+        return put_day(out, at, date);
+    }
+    let start = put_byte(out, at, b'"');
+    let end = put_day(out, start, date);
+    put_byte(out, end, b'"')
 }

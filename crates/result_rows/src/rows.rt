@@ -8,9 +8,9 @@ ghost use Rattle.row_columns.specs.Picked.{numbered};
 ghost use Rattle.result_rows.specs.Rows.{rows_of_row};
 
 use crate::names::{names_of, picked_names};
-use cell_types::Value;
+use cell_types::{Value, owned};
 use csvw_meta::Schema;
-use row_columns::{Columns, RowRef, owned};
+use row_columns::{Columns, RowRef};
 use std::alloc::{AllocError, Global};
 use std::marker::Model;
 

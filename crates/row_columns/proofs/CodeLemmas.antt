@@ -20,15 +20,15 @@ value_of texts rows code = get_or texts (get_or rows code 0) null
 
 -- a row of a block by its code
 coded_row : (piece : List ColumnCells) (col : ℕ) (column : ColumnCells) (texts : List CellValue) (codes : TextCodes) → col < length piece → column ≡ get_or piece col column
-    → cells_of_texts column.packed_type column.cells ≡ Some texts → AreCodes codes texts
+    → cells_of_texts column.kind column.cells ≡ Some texts → AreCodes codes texts
     → (row : ℕ) → row < length codes.codes.items → get_or (piece_row piece row) col null ≡ value_of texts codes.rows.items (get_or codes.codes.items row 0)
 coded_row piece col column texts codes inside is some are row less =
-    sym (cell_of_piece piece col row column inside is) ∙ ap (λ cells. get_or cells row null) (sym (text_cells column.packed_type column.cells texts some))
+    sym (cell_of_piece piece col row column inside is) ∙ ap (λ cells. get_or cells row null) (sym (text_cells column.kind column.cells texts some))
     ∙ sym ((are.each row (omega (arith, less, are.long))).1)
 
 -- all rows of a block by their codes
 pub all_coded : (piece : List ColumnCells) (col : ℕ) (column : ColumnCells) (texts : List CellValue) (codes : TextCodes) → col < length piece → column ≡ get_or piece col column
-    → cells_of_texts column.packed_type column.cells ≡ Some texts → AreCodes codes texts → HaveCodesAt codes.codes.items col (piece_row piece)
+    → cells_of_texts column.kind column.cells ≡ Some texts → AreCodes codes texts → HaveCodesAt codes.codes.items col (piece_row piece)
 all_coded piece col column texts codes inside is some are = (value_of texts codes.rows.items, coded_row piece col column texts codes inside is some are)
 
 zip_from : {A : Type 0} (R : A → ℕ → Type 0) (d : A) (xs : List A) (ys : List ℕ) → length xs ≡ length ys → ((i : ℕ) → i < length ys → R (get_or xs i d) (get_or ys i 0)) → AllZip R xs ys

@@ -1,29 +1,31 @@
 -- Columns of rows as they are packed.
-use Rattle.std.proofs.Common.{◌≡◌, ℕ, ◌+◌, ◌*◌, ◌/◌, ◌%◌, ◌<◌, ◌≤◌, List, [], Option, None, Some, length, map, get_or, option_map, option_copied, sym, ap, ◌∙◌, arith}
+use Rattle.std.proofs.Common.{◌≡◌, ℕ, ◌+◌, ◌*◌, ◌/◌, ◌%◌, ◌<◌, ◌≤◌, List, [], Option, None, Some, length, map, get_or, option_copied, sym, ap, ◌∙◌, arith}
 use Rattle.std.specs.Prelude.{IfSome}
 use Rattle.std.specs.Borrow.{Bor}
 use Rattle.std.proofs.lemmas.List.{ext_get_or, get_or-map, get_or_read, length-map}
 use Rattle.std.proofs.lemmas.Option.{same_Some, IfSome_then}
 use Rattle.block_summary.specs.Ranges.{column_of}
 use Rattle.block_summary.specs.declared.block.TheConstants.{BLOCK_ROWS}
-use Rattle.block_summary.specs.declared.number.PackedType.{PackedType}
+use Rattle.cell_types.specs.declared.kind.ColumnKind.TheVariants.{Text, Number}
+use Rattle.cell_types.specs.declared.kind.ColumnKind.{ColumnKind}
 use Rattle.cell_types.specs.Value.{CellValue, null}
 use Rattle.column_blocks.specs.ColumnCells.{ColumnCells}
+use Rattle.column_blocks.specs.TypedColumn.{cells_of_numbers}
 use Rattle.row_columns.specs.Piece.{piece_row}
 use Rattle.row_columns.specs.Store.{numbered_row}
 use Rattle.row_columns.proofs.PieceLemmas.{cell_of_piece}
 
 -- packed cells are those of a column
-packed_are : (packed : Option (Bor (List CellValue))) (type : Option PackedType) (cells : List CellValue) → option_copied packed ≡ option_map (λ _. cells) type → IfSome packed (λ p. p.now ≡ cells)
-packed_are None type cells e = tt
-packed_are (Some p) None cells e = absurd (cc)
-packed_are (Some p) (Some t) cells e = same_Some p.now cells e
+packed_are : (packed : Option (Bor (List CellValue))) (kind : ColumnKind) (cells : List CellValue) → option_copied packed ≡ cells_of_numbers kind cells → IfSome packed (λ p. p.now ≡ cells)
+packed_are None kind cells e = tt
+packed_are (Some p) Text cells e = absurd (cc)
+packed_are (Some p) (Number t) cells e = same_Some p.now cells e
 
 pub packed_column : (piece : List ColumnCells) (col : ℕ) (column : ColumnCells) (packed : Option (Bor (List CellValue))) → col < length piece → column ≡ get_or piece col column
-    → option_copied packed ≡ option_map (λ _. column.cells) column.packed_type
+    → option_copied packed ≡ cells_of_numbers column.kind column.cells
     → IfSome packed (λ cells. (row : ℕ) → get_or cells.now row null ≡ get_or (piece_row piece row) col null)
 packed_column piece col column packed inside is e =
-    IfSome_then packed (packed_are packed column.packed_type column.cells e) (λ p same row. ap (λ cells. get_or cells row null) same ∙ cell_of_piece piece col row column inside is)
+    IfSome_then packed (packed_are packed column.kind column.cells e) (λ p same row. ap (λ cells. get_or cells row null) same ∙ cell_of_piece piece col row column inside is)
 
 -- a row of the last block
 pub row_of_last : (pieces : List (List ColumnCells)) (last : ℕ) (piece : List ColumnCells) (numbers : List ℕ) → last < length pieces → piece ≡ get_or pieces last piece

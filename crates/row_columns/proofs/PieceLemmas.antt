@@ -6,8 +6,10 @@ use Rattle.std.proofs.lemmas.Option.{same_Some}
 use Rattle.std.proofs.lemmas.Slice.Zip.{all_zipped_more}
 use Rattle.std.proofs.Math.ListN.{get_or-map as get_or-map_default}
 use Rattle.block_summary.specs.Ranges.{column_of}
-use Rattle.block_summary.specs.Reading.{packed_type_of}
-use Rattle.block_summary.specs.declared.number.PackedType.{PackedType}
+use Rattle.cell_types.specs.declared.kind.ColumnKind.TheVariants.{Text, Number}
+use Rattle.cell_types.specs.Kind.{kind_of}
+use Rattle.cell_types.specs.declared.kind.ColumnKind.{ColumnKind}
+use Rattle.cell_types.specs.declared.kind.NumberKind.{NumberKind}
 use Rattle.cell_types.specs.Column.{ColumnOf}
 use Rattle.cell_types.specs.Datatype as datatype
 use Rattle.cell_types.specs.Datatype.{DatatypeOf}
@@ -58,20 +60,20 @@ shared_row block (p ∷ places) (c ∷ columns) row are =
 
 -- ---- no numbers are texts
 
-no_text_of : (d : DatatypeOf) (type : PackedType) (t : List ℕ) → Some type ≡ packed_type_of d → IsOfDatatype d (text t) → ⊥
-no_text_of datatype.integer type t e h = h
-no_text_of datatype.text type t e h = cc
-no_text_of (datatype.boolean of_true of_false) type t e h = h
-no_text_of (datatype.date form) type t e h = h
-no_text_of datatype.decimal type t e h = h
+no_text_of : (d : DatatypeOf) (kind : NumberKind) (t : List ℕ) → Number kind ≡ kind_of d → IsOfDatatype d (text t) → ⊥
+no_text_of datatype.integer kind t e h = h
+no_text_of datatype.text kind t e h = cc
+no_text_of (datatype.boolean of_true of_false) kind t e h = h
+no_text_of (datatype.date form) kind t e h = h
+no_text_of datatype.decimal kind t e h = h
 
-no_text : (c : ColumnOf) (type : PackedType) (v : CellValue) → Some type ≡ packed_type_of c.datatype → IsOfColumn c v → IsNoText v
-no_text c type null e h = tt
-no_text c type (integer n) e h = tt
-no_text c type (text t) e h = absurd (no_text_of c.datatype type t e h)
-no_text c type (boolean b) e h = tt
-no_text c type (date y m d) e h = tt
-no_text c type (decimal n) e h = tt
+no_text : (c : ColumnOf) (kind : NumberKind) (v : CellValue) → Number kind ≡ kind_of c.datatype → IsOfColumn c v → IsNoText v
+no_text c kind null e h = tt
+no_text c kind (integer n) e h = tt
+no_text c kind (text t) e h = absurd (no_text_of c.datatype kind t e h)
+no_text c kind (boolean b) e h = tt
+no_text c kind (date y m d) e h = tt
+no_text c kind (decimal n) e h = tt
 
 value_there : (columns : List ColumnOf) (place : ℕ) (c : ColumnOf) (row : List CellValue) → slice_get columns place ≡ Some c → IsTableRow columns row → IsOfColumn c (get_or row place null)
 value_there [] place c row at h = absurd (cc)
@@ -87,16 +89,16 @@ cells_alone columns place c (row ∷ rows) at all alone = (
   cells_alone columns place c rows at (λ k d h. all (suc k) d (omega (arith, h))) alone,
 )
 
-texts_by : (type : Option PackedType) (cells : List CellValue) → ((t : PackedType) → type ≡ Some t → AllByRecursion IsNoText cells) → HasTextsAlone type cells
-texts_by None cells alone = tt
-texts_by (Some t) cells alone = alone t refl
+texts_by : (kind : ColumnKind) (cells : List CellValue) → ((t : NumberKind) → kind ≡ Number t → AllByRecursion IsNoText cells) → HasTextsAlone kind cells
+texts_by Text cells alone = tt
+texts_by (Number t) cells alone = alone t refl
 
 column_alone : (o : Option ColumnOf) (columns : List ColumnOf) (place : ℕ) (rows : List (List CellValue)) (column : ColumnCells) → slice_get columns place ≡ o → All (IsTableRow columns) rows
-    → Some column ≡ option_map (λ (c : ColumnOf). typed_cells c (column_of rows place)) o → HasTextsAlone column.packed_type column.cells
+    → Some column ≡ option_map (λ (c : ColumnOf). typed_cells c (column_of rows place)) o → HasTextsAlone column.kind column.cells
 column_alone None columns place rows column at all e = absurd (cc)
 column_alone (Some c) columns place rows column at all e =
-    subst (λ (k : ColumnCells). HasTextsAlone k.packed_type k.cells) (sym (same_Some column (typed_cells c (column_of rows place)) e))
-    (texts_by (packed_type_of c.datatype) (column_of rows place) (λ t is. cells_alone columns place c rows at all (λ v. no_text c t v (sym is))))
+    subst (λ (k : ColumnCells). HasTextsAlone k.kind k.cells) (sym (same_Some column (typed_cells c (column_of rows place)) e))
+    (texts_by (kind_of c.datatype) (column_of rows place) (λ t is. cells_alone columns place c rows at all (λ v. no_text c t v (sym is))))
 
 pub shared_alone : (block : TableOf) (places : List ℕ) (columns : List ColumnCells) → HasTableRows block → AreShared block places columns → HaveTextsAlone columns
 shared_alone block [] [] fit are = tt
@@ -120,13 +122,13 @@ no_text_at [] row all = refl
 no_text_at (cell ∷ cells) zero all = no_text_is cell all.0
 no_text_at (cell ∷ cells) (suc row) all = no_text_at cells row all.1
 
-pub number_cell : (type : Option PackedType) (cells : List CellValue) (row : ℕ) → HasTextsAlone type cells → cells_of_texts type cells ≡ None → text_of_cell (get_or cells row null) ≡ None
-number_cell None cells row alone e = absurd (cc)
-number_cell (Some t) cells row alone e = no_text_at cells row alone
+pub number_cell : (kind : ColumnKind) (cells : List CellValue) (row : ℕ) → HasTextsAlone kind cells → cells_of_texts kind cells ≡ None → text_of_cell (get_or cells row null) ≡ None
+number_cell Text cells row alone e = absurd (cc)
+number_cell (Number t) cells row alone e = no_text_at cells row alone
 
-pub text_cells : (type : Option PackedType) (cells texts : List CellValue) → cells_of_texts type cells ≡ Some texts → texts ≡ cells
-text_cells None cells texts e = sym (same_Some cells texts e)
-text_cells (Some t) cells texts e = absurd (cc)
+pub text_cells : (kind : ColumnKind) (cells texts : List CellValue) → cells_of_texts kind cells ≡ Some texts → texts ≡ cells
+text_cells Text cells texts e = sym (same_Some cells texts e)
+text_cells (Number t) cells texts e = absurd (cc)
 
 -- ---- a column of a piece
 
@@ -141,7 +143,7 @@ pub picked_alone : (places : List ℕ) (piece : List ColumnCells) → HaveTextsA
 picked_alone [] piece all = tt
 picked_alone (p ∷ places) piece all = (alone_or_none piece p all, picked_alone places piece all)
   where
-    alone_or_none : (cs : List ColumnCells) (q : ℕ) → HaveTextsAlone cs → HasTextsAlone (get_or cs q no_cells).packed_type (get_or cs q no_cells).cells
+    alone_or_none : (cs : List ColumnCells) (q : ℕ) → HaveTextsAlone cs → HasTextsAlone (get_or cs q no_cells).kind (get_or cs q no_cells).cells
     alone_or_none [] q h = tt
     alone_or_none (c ∷ cs) zero h = h.0
     alone_or_none (c ∷ cs) (suc q) h = alone_or_none cs q h.1

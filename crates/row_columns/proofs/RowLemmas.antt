@@ -6,7 +6,7 @@ use Rattle.std.proofs.lemmas.List.{get_or-map, get_or_append_left, get_or_push, 
 use Rattle.std.proofs.lemmas.List.Elements.{All-from_recursion}
 use Rattle.std.proofs.lemmas.Option.{get_or_from_slice_get, slice_get-get_or}
 use Rattle.block_summary.specs.declared.block.TheConstants.{BLOCK_ROWS}
-use Rattle.block_summary.specs.declared.number.PackedType.{PackedType}
+use Rattle.cell_types.specs.declared.kind.ColumnKind.{ColumnKind}
 use Rattle.cell_types.proofs.ListLaws.{AllByRecursion-weaker}
 use Rattle.cell_types.specs.Column.{ColumnOf}
 use Rattle.cell_types.specs.Value.{CellValue, null, value_view}
@@ -175,16 +175,16 @@ numbered_wide columns rows (n ∷ numbers) all within =
 
 -- ---- rows are taken
 
-pub blocks_taken : (places numbers made : List ℕ) (types : Vec (Option PackedType) Global) (pieces new : Vec (List ColumnCells) Global) (piece : List ColumnCells) (rows : List (List CellValue))
-    → new.items ≡ pieces.items ++ piece ∷ [] → length piece ≡ length types.items → IsStoredWide (Blocks types pieces) → length rows ≤ BLOCK_ROWS
+pub blocks_taken : (places numbers made : List ℕ) (kinds : Vec ColumnKind Global) (pieces new : Vec (List ColumnCells) Global) (piece : List ColumnCells) (rows : List (List CellValue))
+    → new.items ≡ pieces.items ++ piece ∷ [] → length piece ≡ length kinds.items → IsStoredWide (Blocks kinds pieces) → length rows ≤ BLOCK_ROWS
     → ((row : ℕ) → row < length rows → piece_row piece row ≡ values_at places (get_or rows row [])) → All (λ n. n < length rows) numbers
     → made ≡ map (λ n. length pieces.items * BLOCK_ROWS + n) numbers
-    → HasTakenRows (Blocks types pieces) (Blocks types new) (map (values_at places) (numbered numbers rows)) made
-blocks_taken places numbers made types pieces new piece rows e long wide most is within made_is =
+    → HasTakenRows (Blocks kinds pieces) (Blocks kinds new) (map (values_at places) (numbered numbers rows)) made
+blocks_taken places numbers made kinds pieces new piece rows e long wide most is within made_is =
     let size : length new.items ≡ length pieces.items + 1 = ap (λ (ps : List (List ColumnCells)). length ps) e ∙ length_push pieces.items piece in
     record {
       kinds = refl;
-      wide = subst (AllByRecursion (λ (p : List ColumnCells). length p ≡ length types.items)) (sym e) (all_append (λ (p : List ColumnCells). length p ≡ length types.items) pieces.items (piece ∷ []) wide (long, tt));
+      wide = subst (AllByRecursion (λ (p : List ColumnCells). length p ≡ length kinds.items)) (sym e) (all_append (λ (p : List ColumnCells). length p ≡ length kinds.items) pieces.items (piece ∷ []) wide (long, tt));
       end = omega (arith, size);
       stay = λ n h. ap (λ (ps : List (List ColumnCells)). numbered_row ps n) e ∙ old_row pieces.items piece n (omega (arith, h));
       within = subst (AllByRecursion (λ n. n < length new.items * BLOCK_ROWS)) (sym made_is)

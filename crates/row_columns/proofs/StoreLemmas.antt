@@ -1,57 +1,48 @@
 -- Where rows stand.
-use Rattle.std.proofs.Common.{◌≡◌, ◌==◌, false, ℕ, zero, suc, ◌+◌, ◌*◌, ◌/◌, ◌%◌, ◌<◌, List, [], ◌∷◌, ◌++◌, Option, Vec, Global, length, map, take, get_or, refl, sym, ap, ◌∙◌, subst, arith}
+use Rattle.std.proofs.Common.{◌≡◌, ◌==◌, false, ℕ, zero, suc, ◌+◌, ◌*◌, ◌/◌, ◌%◌, ◌<◌, List, [], ◌∷◌, ◌++◌, Vec, Global, length, map, take, get_or, refl, sym, ap, ◌∙◌, subst, arith}
 use Rattle.std.specs.Prelude.{replicate}
 use Rattle.std.specs.List.{AllByRecursion}
 use Rattle.std.proofs.lemmas.Bool.{false≢true}
 use Rattle.std.proofs.lemmas.List.{get_or-map, get_or_read, length-map, length-replicate, map_more, map_push}
 use Rattle.std.proofs.lemmas.List.Elements.{All-from_recursion}
-use Rattle.block_summary.specs.Reading.{packed_type_of}
+use Rattle.cell_types.specs.Kind.{kind_of}
 use Rattle.block_summary.specs.declared.block.TheConstants.{BLOCK_ROWS}
-use Rattle.block_summary.specs.declared.number.PackedType.{PackedType}
-use Rattle.cell_types.specs.Column.{column_view, ColumnOf}
-use Rattle.cell_types.specs.Datatype as datatype
-use Rattle.cell_types.specs.Datatype.{datatype_view, DatatypeOf}
+use Rattle.cell_types.specs.declared.kind.ColumnKind.{ColumnKind}
+use Rattle.cell_types.specs.Column.{column_view}
+use Rattle.cell_types.specs.Datatype.{datatype_view}
 use Rattle.cell_types.specs.Value.{CellValue, null, value_view}
 use Rattle.cell_types.specs.declared.column.Column.{Column}
 use Rattle.cell_types.specs.declared.value.Value.{Value}
 use Rattle.column_blocks.specs.ColumnCells.{ColumnCells}
 use Rattle.row_columns.specs.declared.store.Store.{Store}
 use Rattle.row_columns.specs.declared.store.Store.TheVariants.{Blocks, Values}
-use Rattle.row_columns.specs.Kinds.{any, kind_of_datatype, kinds_of, KindOf}
+use Rattle.row_columns.specs.Kinds.{any, kinds_of, of_kind, KindOf}
 use Rattle.row_columns.specs.Picked.{kinds_at, values_at}
 use Rattle.row_columns.specs.Piece.{piece_at, piece_row}
-use Rattle.row_columns.specs.Store.{end_of, kind_of_type, numbered_row, value_rows, stored_kinds, stored_row, IsPicked, IsStoredWide}
+use Rattle.row_columns.specs.Store.{end_of, numbered_row, value_rows, stored_kinds, stored_row, IsPicked, IsStoredWide}
 use Rattle.row_columns.proofs.PieceLemmas.{picked_row}
 
 -- ---- the kinds of columns
 
-pub type_kind : (d : DatatypeOf) → kind_of_type (packed_type_of d) ≡ kind_of_datatype d
-type_kind datatype.integer = refl
-type_kind datatype.text = refl
-type_kind (datatype.boolean of_true of_false) = refl
-type_kind (datatype.date form) = refl
-type_kind datatype.decimal = refl
-
 -- one of those with places more
-pub kind_at_more : (columns : List Column) (places : List ℕ) (i : ℕ) (column : Column) (made : List (Option PackedType)) (type : Option PackedType) → i < length places
-    → get_or places i 0 < length columns → column ≡ get_or columns (get_or places i 0) column → type ≡ packed_type_of (datatype_view column.datatype)
-    → map kind_of_type made ≡ kinds_at (take i places) (kinds_of (map column_view columns))
-    → map kind_of_type (made ++ type ∷ []) ≡ kinds_at (take (i + 1) places) (kinds_of (map column_view columns))
-kind_at_more columns places i column made type h within at is so_far =
+pub kind_at_more : (columns : List Column) (places : List ℕ) (i : ℕ) (column : Column) (made : List ColumnKind) (kind : ColumnKind) → i < length places
+    → get_or places i 0 < length columns → column ≡ get_or columns (get_or places i 0) column → kind ≡ kind_of (datatype_view column.datatype)
+    → map of_kind made ≡ kinds_at (take i places) (kinds_of (map column_view columns))
+    → map of_kind (made ++ kind ∷ []) ≡ kinds_at (take (i + 1) places) (kinds_of (map column_view columns))
+kind_at_more columns places i column made kind h within at is so_far =
     let kinds = kinds_of (map column_view columns) in
     let place = get_or places i 0 in
-    let kind : ColumnOf → KindOf = λ (c : ColumnOf). kind_of_datatype c.datatype in
-    let here : kind_of_type type ≡ get_or kinds place any =
-    ap kind_of_type is ∙ type_kind (datatype_view column.datatype) ∙ ap (λ (c : Column). kind (column_view c)) at
-    ∙ sym (get_or-map (λ (c : Column). kind_of_datatype (datatype_view c.datatype)) columns place column any within) ∙ ap (λ ks. get_or ks place any) (both columns) in
-    map_push kind_of_type made type
-    ∙ ap (λ ks. ks ++ kind_of_type type ∷ []) so_far
+    let own : Column → KindOf = λ (c : Column). of_kind (kind_of (datatype_view c.datatype)) in
+    let here : of_kind kind ≡ get_or kinds place any =
+    ap of_kind is ∙ ap own at ∙ sym (get_or-map own columns place column any within) ∙ ap (λ ks. get_or ks place any) (both columns) in
+    map_push of_kind made kind
+    ∙ ap (λ ks. ks ++ of_kind kind ∷ []) so_far
     ∙ ap (λ k. kinds_at (take i places) kinds ++ k ∷ []) here
     ∙ sym (map_more (λ place. get_or kinds place any) places i 0 h)
   where
-    both : (cs : List Column) → map (λ (c : Column). kind_of_datatype (datatype_view c.datatype)) cs ≡ kinds_of (map column_view cs)
+    both : (cs : List Column) → map (λ (c : Column). of_kind (kind_of (datatype_view c.datatype))) cs ≡ kinds_of (map column_view cs)
     both [] = refl
-    both (c ∷ cs) = ap (λ ks. kind_of_datatype (datatype_view c.datatype) ∷ ks) (both cs)
+    both (c ∷ cs) = ap (λ ks. of_kind (kind_of (datatype_view c.datatype)) ∷ ks) (both cs)
 
 -- ---- a row
 
@@ -82,10 +73,10 @@ row_long width rows number row wide h at =
 
 -- a value of a row
 module _ (store : Store) (number col : ℕ) (less : number < end_of store) where
-  pub value_of_piece : (types : Vec (Option PackedType) Global) (pieces : Vec (List ColumnCells) Global) → store ≡ Blocks types pieces → (piece : List ColumnCells)
+  pub value_of_piece : (kinds : Vec ColumnKind Global) (pieces : Vec (List ColumnCells) Global) → store ≡ Blocks kinds pieces → (piece : List ColumnCells)
       → piece ≡ get_or pieces.items (number / BLOCK_ROWS) piece → get_or (piece_row piece (number % BLOCK_ROWS)) col null ≡ get_or (stored_row store number) col null
-  value_of_piece types pieces is piece at =
-      let here : number < end_of (Blocks types pieces) = subst (λ (s : Store). number < end_of s) is less in
+  value_of_piece kinds pieces is piece at =
+      let here : number < end_of (Blocks kinds pieces) = subst (λ (s : Store). number < end_of s) is less in
       ap (λ (r : List CellValue). get_or r col null) (row_of_piece pieces.items number piece (omega (arith, here)) at) ∙ ap (λ (s : Store). get_or (stored_row s number) col null) (sym is)
 
   pub value_inside : (width : ℕ) (rows : Vec (Vec Value Global) Global) → store ≡ Values width rows → (row : Vec Value Global) → row ≡ get_or rows.items number row → IsStoredWide store
@@ -102,13 +93,13 @@ some_there (suc n) e = omega arith
 
 -- each row is as wide as there are columns
 pub stored_wide : (store : Store) (number : ℕ) → IsStoredWide store → number < end_of store → length (stored_row store number) ≡ length (stored_kinds store)
-stored_wide (Blocks types pieces) number wide h =
+stored_wide (Blocks kinds pieces) number wide h =
     let none : List ColumnCells = [] in
     let inside : number / BLOCK_ROWS < length pieces.items = omega (arith, h) in
     let piece = get_or pieces.items (number / BLOCK_ROWS) none in
     length-map piece (λ (c : ColumnCells). get_or c.cells (number % BLOCK_ROWS) null)
-    ∙ All-from_recursion (λ (p : List ColumnCells). length p ≡ length types.items) pieces.items wide (number / BLOCK_ROWS) none inside
-    ∙ sym (length-map types.items kind_of_type)
+    ∙ All-from_recursion (λ (p : List ColumnCells). length p ≡ length kinds.items) pieces.items wide (number / BLOCK_ROWS) none inside
+    ∙ sym (length-map kinds.items of_kind)
 stored_wide (Values width rows) number wide h =
     let none : List CellValue = [] in
     let inside : number < length (value_rows rows.items) = omega (arith, h, length-map rows.items (λ (r : Vec Value Global). map value_view r.items)) in
@@ -133,14 +124,14 @@ pub rows_wide : (places : List ℕ) (rows : List (List CellValue)) → AllByRecu
 rows_wide places [] = tt
 rows_wide places (row ∷ rows) = (length-map places _, rows_wide places rows)
 
-pub blocks_picked : (places : List ℕ) (types made : Vec (Option PackedType) Global) (pieces new : Vec (List ColumnCells) Global)
-    → map kind_of_type made.items ≡ kinds_at places (map kind_of_type types.items) → new.items ≡ map (piece_at places) pieces.items
-    → IsPicked places (Blocks types pieces) (Blocks made new)
-blocks_picked places types made pieces new kinds is = record {
-  kinds = kinds;
+pub blocks_picked : (places : List ℕ) (kinds made : Vec ColumnKind Global) (pieces new : Vec (List ColumnCells) Global)
+    → map of_kind made.items ≡ kinds_at places (map of_kind kinds.items) → new.items ≡ map (piece_at places) pieces.items
+    → IsPicked places (Blocks kinds pieces) (Blocks made new)
+blocks_picked places kinds made pieces new kinds_are is = record {
+  kinds = kinds_are;
   end = ap (λ (ps : List (List ColumnCells)). length ps * BLOCK_ROWS) is ∙ ap (λ n. n * BLOCK_ROWS) (length-map pieces.items (piece_at places));
   wide = subst (AllByRecursion (λ (p : List ColumnCells). length p ≡ length made.items)) (sym is)
-      (pieces_wide (length made.items) places pieces.items (sym (length-map places _) ∙ sym (ap length kinds) ∙ length-map made.items kind_of_type));
+      (pieces_wide (length made.items) places pieces.items (sym (length-map places _) ∙ sym (ap length kinds_are) ∙ length-map made.items of_kind));
   rows = λ number h. row number (omega (arith, h));
 }
   where

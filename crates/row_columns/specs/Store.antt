@@ -1,25 +1,16 @@
 -- Where rows stand.
-use Rattle.std.specs.Prelude.{◌≡◌, ◌*◌, ◌/◌, ◌%◌, ◌<◌, ◌≤◌, ℕ, List, [], Option, None, Some, Vec, length, map, replicate, slice_index_or}
+use Rattle.std.specs.Prelude.{◌≡◌, ◌*◌, ◌/◌, ◌%◌, ◌<◌, ◌≤◌, ℕ, List, [], Vec, length, map, replicate, slice_index_or}
 use Rattle.std.specs.List.{AllByRecursion}
 use Rattle.block_summary.specs.declared.block.TheConstants.{BLOCK_ROWS}
-use Rattle.block_summary.specs.declared.number.PackedType.{PackedType}
-use Rattle.block_summary.specs.declared.number.PackedType.TheVariants as types
+use Rattle.cell_types.specs.declared.kind.ColumnKind.{ColumnKind}
 use Rattle.cell_types.specs.Value.{CellValue, value_view}
 use Rattle.cell_types.specs.declared.value.Value.{Value}
 use Rattle.row_columns.specs.declared.store.Store.{Store}
 use Rattle.row_columns.specs.declared.store.Store.TheVariants.{Blocks, Values}
-use Rattle.row_columns.specs.Kinds.{KindOf, any, dates, decimals, integers, texts, truths}
+use Rattle.row_columns.specs.Kinds.{KindOf, any, of_kind}
 use Rattle.row_columns.specs.Picked.{kinds_at, values_at}
 use Rattle.row_columns.specs.Piece.{piece_row}
 use Rattle.column_blocks.specs.ColumnCells.{ColumnCells}
-
--- the kind of a column, by what its numbers stand for
-abbrev pub kind_of_type : Option PackedType → KindOf
-kind_of_type None = texts
-kind_of_type (Some types.Integer) = integers
-kind_of_type (Some types.Decimal) = decimals
-kind_of_type (Some types.Boolean) = truths
-kind_of_type (Some types.Date) = dates
 
 abbrev pub value_rows : {A : Type 0} → List (Vec Value A) → List (List CellValue)
 value_rows rows = map (λ row. map value_view row.items) rows
@@ -29,21 +20,21 @@ abbrev pub numbered_row : List (List ColumnCells) → ℕ → List CellValue
 numbered_row pieces number = piece_row (slice_index_or pieces (number / BLOCK_ROWS) []) (number % BLOCK_ROWS)
 
 abbrev pub stored_row : Store → ℕ → List CellValue
-stored_row (Blocks types pieces) number = numbered_row pieces.items number
+stored_row (Blocks kinds pieces) number = numbered_row pieces.items number
 stored_row (Values width rows) number = slice_index_or (value_rows rows.items) number []
 
 abbrev pub stored_kinds : Store → List KindOf
-stored_kinds (Blocks types pieces) = map kind_of_type types.items
+stored_kinds (Blocks kinds pieces) = map of_kind kinds.items
 stored_kinds (Values width rows) = replicate width any
 
 -- no row has that number, or a greater one
 abbrev pub end_of : Store → ℕ
-end_of (Blocks types pieces) = length pieces.items * BLOCK_ROWS
+end_of (Blocks kinds pieces) = length pieces.items * BLOCK_ROWS
 end_of (Values width rows) = length rows.items
 
 -- each row has a value for each column
 abbrev pub IsStoredWide : Store → Type 0
-IsStoredWide (Blocks types pieces) = AllByRecursion (λ (piece : List ColumnCells). length piece ≡ length types.items) pieces.items
+IsStoredWide (Blocks kinds pieces) = AllByRecursion (λ (piece : List ColumnCells). length piece ≡ length kinds.items) pieces.items
 IsStoredWide (Values width rows) = AllByRecursion (λ (row : List CellValue). length row ≡ width) (value_rows rows.items)
 
 -- the rows have their values in the columns with these places

@@ -1,12 +1,12 @@
 //! Cells, as they are kept.
 ghost use Rattle.std.specs.Prelude.{◌≡◌, slice_index_or};
-ghost use Rattle.block_summary.specs.Types.{cell_of};
-ghost use Rattle.block_summary.specs.declared.number.PackedType.TheVariants as types;
+ghost use Rattle.cell_types.specs.Kind.{cell_of};
+ghost use Rattle.cell_types.specs.declared.kind.NumberKind.TheVariants as kinds;
 ghost use Rattle.cell_types.specs.Value.{null, value_view};
 ghost use Rattle.row_columns.specs.Cell.{cell_view, IsDayOrNull};
 
-use block_summary::{PackedColumn, PackedType};
-use cell_types::Value;
+use block_summary::PackedColumn;
+use cell_types::{NumberKind, Value};
 use column_blocks::BlockCells;
 use jiff_core::civil::Date;
 use text_columns::TextColumn;
@@ -28,7 +28,7 @@ pub enum Cell<'a> {
 /// Returns the cell of a whole number, or of null.
 #[inline(always)]
 fn integer_cell(number: Option<i64>) -> Cell<'static>
-    ensures { cell_view result ≡ cell_of types.Integer number }
+    ensures { cell_view result ≡ cell_of kinds.Integer number }
 {
     match number {
         Some(number) => Cell::Integer(number),
@@ -39,7 +39,7 @@ fn integer_cell(number: Option<i64>) -> Cell<'static>
 /// Returns the cell of a number of millionths, or of null.
 #[inline(always)]
 fn decimal_cell(number: Option<i64>) -> Cell<'static>
-    ensures { cell_view result ≡ cell_of types.Decimal number }
+    ensures { cell_view result ≡ cell_of kinds.Decimal number }
 {
     match number {
         Some(number) => Cell::Decimal(number),
@@ -50,7 +50,7 @@ fn decimal_cell(number: Option<i64>) -> Cell<'static>
 /// Returns the cell of the number of a boolean, or of null.
 #[inline(always)]
 fn boolean_cell(number: Option<i64>) -> Cell<'static>
-    ensures { cell_view result ≡ cell_of types.Boolean number }
+    ensures { cell_view result ≡ cell_of kinds.Boolean number }
 {
     match number {
         Some(number) => Cell::Boolean(number == 1),
@@ -76,11 +76,11 @@ fn date_cell(value: &Value<'_>) -> Cell<'static>
 fn number_cell(numbers: &PackedColumn, row: usize) -> Cell<'static>
     ensures { cell_view result ≡ slice_index_or numbers.now row null }
 {
-    match numbers.packed_type() {
-        PackedType::Integer => integer_cell(numbers.number(row)),
-        PackedType::Decimal => decimal_cell(numbers.number(row)),
-        PackedType::Boolean => boolean_cell(numbers.number(row)),
-        PackedType::Date => date_cell(&numbers.value(row)),
+    match numbers.kind() {
+        NumberKind::Integer => integer_cell(numbers.number(row)),
+        NumberKind::Decimal => decimal_cell(numbers.number(row)),
+        NumberKind::Boolean => boolean_cell(numbers.number(row)),
+        NumberKind::Date => date_cell(&numbers.value(row)),
     }
 }
 

@@ -13,7 +13,7 @@ ghost use Rattle.row_columns.specs.Text.{text_of_cell};
 
 use crate::row_numbers::RowNumbers;
 use crate::row_ref::RowRef;
-use crate::store::{Store, types_at, types_of};
+use crate::store::{Store, all_kinds, kinds_at_places};
 use block_summary::PackedColumn;
 use cell_types::{Column, Value};
 use row_selection::Selection;
@@ -58,9 +58,9 @@ impl Columns {
         ensures { IfOk result (λ made.
             made ≡ record { kinds = kinds_of (map column_view columns.now); rows = [] }) }
     {
-        let types = types_of(alloc, columns)?;
+        let kinds = all_kinds(alloc, columns)?;
         Ok(Columns {
-            store: Store::Blocks(types, Vec::new(alloc)),
+            store: Store::Blocks(kinds, Vec::new(alloc)),
             numbers: RowNumbers::none(alloc),
         })
     }
@@ -76,9 +76,9 @@ impl Columns {
             made.kinds ≡ kinds_at places.now (kinds_of (map column_view columns.now))) }
         ensures rows { IfOk result (λ made. made.rows ≡ []) }
     {
-        let types = types_at(alloc, columns, places)?;
+        let kinds = kinds_at_places(alloc, columns, places)?;
         Ok(Columns {
-            store: Store::Blocks(types, Vec::new(alloc)),
+            store: Store::Blocks(kinds, Vec::new(alloc)),
             numbers: RowNumbers::none(alloc),
         })
     }

@@ -11,10 +11,8 @@ mod row_ref;
 mod store;
 mod turns;
 mod value_rows;
-mod values;
 
 pub use block_rows::{BlockRows, ColumnPart};
 pub use cell::Cell;
 pub use columns::Columns;
 pub use row_ref::RowRef;
-pub use values::{lent, owned};

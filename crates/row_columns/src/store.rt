@@ -6,19 +6,18 @@ ghost use Rattle.cell_types.specs.Column.{column_view};
 ghost use Rattle.cell_types.specs.Value.{null, value_view};
 ghost use Rattle.row_columns.specs.Cell.{cell_view};
 ghost use Rattle.row_columns.specs.Codes.{HaveCodes};
-ghost use Rattle.row_columns.specs.Kinds.{kinds_of};
+ghost use Rattle.row_columns.specs.Kinds.{kinds_of, of_kind};
 ghost use Rattle.row_columns.specs.Numbers.{numbers_from};
 ghost use Rattle.row_columns.specs.Picked.{kinds_at, numbered, values_at};
 ghost use Rattle.row_columns.specs.Piece.{piece_at};
-ghost use Rattle.row_columns.specs.Store.{end_of, kind_of_type, stored_kinds, stored_row, IsPicked, IsStoredWide, HasTakenRows};
+ghost use Rattle.row_columns.specs.Store.{end_of, stored_kinds, stored_row, IsPicked, IsStoredWide, HasTakenRows};
 ghost use Rattle.row_columns.specs.Text.{text_of_cell};
 
 use crate::cell::Cell;
 use crate::piece::Piece;
 use crate::value_rows::{rows_picked, rows_taken, text_of};
-use crate::values::lent;
-use block_summary::{BLOCK_ROWS, PackedColumn, PackedType, packed_type_of};
-use cell_types::{Column, Value};
+use block_summary::{BLOCK_ROWS, PackedColumn};
+use cell_types::{Column, ColumnKind, Value, lent};
 use row_selection::Selection;
 use std::alloc::{AllocError, Global};
 use table_store::Block;
@@ -32,57 +31,54 @@ const MOST_PIECES: usize = 1 << 20;
 /// Where rows stand.
 #[derive(Drop)]
 pub(crate) enum Store {
-    /// In blocks that are shared with their table. Of each column it is known what its numbers stand for; nothing of texts.
-    Blocks(Vec<Option<PackedType>>, Vec<Piece>),
+    /// In blocks that are shared with their table. Of each column its kind is known.
+    Blocks(Vec<ColumnKind>, Vec<Piece>),
     /// Beside one another, each with a number of values of any kind.
     Values(usize, Vec<Vec<Value<'static>>>),
 }
 
-/// Returns what the numbers of each column stand for; nothing for texts.
-pub(crate) fn types_of(
-    alloc: Global,
-    columns: &[Column],
-) -> Result<Vec<Option<PackedType>>, AllocError>
+/// Returns the kind of each column.
+pub(crate) fn all_kinds(alloc: Global, columns: &[Column]) -> Result<Vec<ColumnKind>, AllocError>
     ensures { IfOk result
-        (λ made. map kind_of_type made.items ≡ kinds_of (map column_view columns.now)) }
+        (λ made. map of_kind made.items ≡ kinds_of (map column_view columns.now)) }
 {
     let mut made = Vec::with_capacity(alloc, columns.len())?;
     for column in columns {
-        made.push(packed_type_of(&column.datatype))?;
+        made.push(column.datatype.kind())?;
     }
     Ok(made)
 }
 
-/// Returns what the numbers of those of the columns stand for that have these places; nothing for texts.
-pub(crate) fn types_at(
+/// Returns the kinds of those of the columns that have these places.
+pub(crate) fn kinds_at_places(
     alloc: Global,
     columns: &[Column],
     places: &[usize],
-) -> Result<Vec<Option<PackedType>>, AllocError>
+) -> Result<Vec<ColumnKind>, AllocError>
     requires { All (λ place. place < length columns.now) places.now }
-    ensures { IfOk result (λ made. map kind_of_type made.items
+    ensures { IfOk result (λ made. map of_kind made.items
         ≡ kinds_at places.now (kinds_of (map column_view columns.now))) }
 {
     let mut made = Vec::with_capacity(alloc, places.len())?;
     for place in places {
-        made.push(packed_type_of(&columns[*place].datatype))?;
+        made.push(columns[*place].datatype.kind())?;
     }
     Ok(made)
 }
 
-/// Returns those of the types that have these places.
-fn types_picked(
+/// Returns those of the kinds that have these places.
+fn picked_kinds(
     alloc: Global,
-    types: &[Option<PackedType>],
+    kinds: &[ColumnKind],
     places: &[usize],
-) -> Result<Vec<Option<PackedType>>, AllocError>
-    requires { All (λ place. place < length types.now) places.now }
+) -> Result<Vec<ColumnKind>, AllocError>
+    requires { All (λ place. place < length kinds.now) places.now }
     ensures { IfOk result (λ made.
-        map kind_of_type made.items ≡ kinds_at places.now (map kind_of_type types.now)) }
+        map of_kind made.items ≡ kinds_at places.now (map of_kind kinds.now)) }
 {
     let mut made = Vec::with_capacity(alloc, places.len())?;
     for place in places {
-        made.push(types[*place])?;
+        made.push(kinds[*place])?;
     }
     Ok(made)
 }
@@ -118,7 +114,7 @@ impl Store {
         ensures { result ≡ length (stored_kinds self.now) }
     {
         match self {
-            Store::Blocks(types, _) => types.len(),
+            Store::Blocks(kinds, _) => kinds.len(),
             Store::Values(width, _) => *width,
         }
     }
@@ -225,9 +221,9 @@ impl Store {
         ensures { IfOk result (IsPicked places.now self.now) }
     {
         match self {
-            Store::Blocks(types, pieces) => {
-                let types = types_picked(alloc, types.as_slice(), places)?;
-                Ok(Store::Blocks(types, pieces_picked(alloc, pieces.as_slice(), places)?))
+            Store::Blocks(kinds, pieces) => {
+                let kinds = picked_kinds(alloc, kinds.as_slice(), places)?;
+                Ok(Store::Blocks(kinds, pieces_picked(alloc, pieces.as_slice(), places)?))
             }
             Store::Values(width, rows) => {
                 let rows = rows_picked(alloc, *width, rows.as_slice(), places)?;

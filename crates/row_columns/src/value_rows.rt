@@ -6,8 +6,7 @@ ghost use Rattle.row_columns.specs.Picked.{numbered, values_at};
 ghost use Rattle.row_columns.specs.Store.{value_rows};
 ghost use Rattle.row_columns.specs.Text.{text_of_cell};
 
-use crate::values::owned;
-use cell_types::Value;
+use cell_types::{Value, owned};
 use std::alloc::{AllocError, Global};
 use table_store::Block;
 

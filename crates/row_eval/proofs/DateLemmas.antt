@@ -8,9 +8,10 @@ use Rattle.std.specs.declared.cmp.Ordering.TheVariants.{Less, Equal, Greater}
 use Rattle.std.proofs.lemmas.Cmp.{int_ranked, ranked}
 use Rattle.std.proofs.lemmas.Int.{ints}
 use Rattle.std.proofs.lemmas.List.Elements.{All-head, All-tail}
+use Rattle.cell_types.specs.Kind.{day_number}
 use Rattle.cell_types.specs.Value.{CellValue}
-use Rattle.typed_trees.specs.declared.operator.ComparisonOperator.{ComparisonOperator}
-use Rattle.typed_trees.specs.declared.tree.NumberKind.TheVariants as kind
+use Rattle.cell_types.specs.declared.comparison.ComparisonOperator.{ComparisonOperator}
+use Rattle.cell_types.specs.declared.kind.NumberKind.TheVariants as kind
 use Rattle.typed_trees.specs.TypedTree.{DateExprOf, DayOf, compare_numbers, date_column, date_literal, null_date, number_in, number_of_date, number_of_day}
 use Rattle.row_eval.specs.declared.truth.Truth.{Truth}
 use Rattle.row_eval.specs.Comparison.{compared, day_cmp, holds, is_among, is_equal}
@@ -19,10 +20,6 @@ use Rattle.row_eval.specs.Logic.{truth_of}
 use Rattle.row_eval.specs.Outcome.{both, date_outcome, number_outcome, truth_outcome}
 use Rattle.row_eval.specs.Row as row
 use Rattle.row_eval.specs.Row.{day_in}
-
--- a day by its three numbers
-abbrev day_number : ℤ → ℕ → ℕ → ℤ
-day_number y m d = number_of_day (record { year = y; month = m; day = d })
 
 -- ---- days
 

@@ -2,7 +2,7 @@
 use Rattle.std.specs.Prelude.{◌≡◌, ◌≤◌, false, All, List, Option, Some, IfSome, IsSome, map, option_map}
 use Rattle.cell_types.specs.Value.{CellValue}
 use Rattle.typed_trees.specs.CanFault.{can_fault, truth_can_fault}
-use Rattle.typed_trees.specs.declared.operator.ComparisonOperator.{ComparisonOperator}
+use Rattle.cell_types.specs.declared.comparison.ComparisonOperator.{ComparisonOperator}
 use Rattle.typed_trees.specs.TypedTree.{DateExprOf, DayOf, TruthExprOf, TypedExprOf, compare_numbers, number_in, number_of_date, number_of_day}
 use Rattle.row_eval.specs.Comparison.{compared, day_cmp, holds, is_among}
 use Rattle.row_eval.specs.Logic.{truth_of}

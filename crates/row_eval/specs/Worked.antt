@@ -3,9 +3,9 @@ use Rattle.std.specs.Prelude.{◌≡◌, ℕ, ℤ, pos, negsuc, true, false, Lis
 use Rattle.cell_types.specs.Value as value
 use Rattle.cell_types.specs.Value.{CellValue}
 use Rattle.typed_trees.specs.declared.operator.ArithmeticOperator.TheVariants.{Div}
-use Rattle.typed_trees.specs.declared.operator.ComparisonOperator.{ComparisonOperator}
-use Rattle.typed_trees.specs.declared.operator.ComparisonOperator.TheVariants.{Equal, NotEqual, GreaterThan, GreaterOrEqual, LessThan, LessOrEqual}
-use Rattle.typed_trees.specs.declared.tree.NumberKind.TheVariants as kind
+use Rattle.cell_types.specs.declared.comparison.ComparisonOperator.{ComparisonOperator}
+use Rattle.cell_types.specs.declared.comparison.ComparisonOperator.TheVariants.{Equal, NotEqual, GreaterThan, GreaterOrEqual, LessThan, LessOrEqual}
+use Rattle.cell_types.specs.declared.kind.NumberKind.TheVariants as kind
 use Rattle.typed_trees.specs.declared.tree.DatePart.TheVariants.{Year, Month, Day}
 use Rattle.typed_trees.specs.declared.tree.TextTest.TheVariants.{Contains, StartsWith, EndsWith}
 use Rattle.typed_trees.specs.TypedTree.{DateExprOf, TextExprOf, NumberExprOf, TruthExprOf, TypedExprOf, null_date, date_column, date_literal, null_text, text_column, text_literal, concat, null_number, number_column, number_literal, number_of_date, arithmetic, length_of, index_of, part_of, scaled, null_truth, truth_column, truth_literal, compare_numbers, compare_texts, compare_truths, test_text, nothing, integer, text, truth, date, decimal}

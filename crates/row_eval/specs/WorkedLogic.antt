@@ -2,7 +2,7 @@
 use Rattle.std.specs.Prelude.{◌≡◌, ℤ, pos, negsuc, true, false, [], ◌∷◌, codes, Some, None}
 use Rattle.typed_trees.specs.declared.operator.ArithmeticOperator.{ArithmeticOperator}
 use Rattle.typed_trees.specs.declared.operator.ArithmeticOperator.TheVariants.{Add, Sub, Mul, Div, Mod}
-use Rattle.typed_trees.specs.declared.operator.ComparisonOperator.TheVariants.{Equal, NotEqual}
+use Rattle.cell_types.specs.declared.comparison.ComparisonOperator.TheVariants.{Equal, NotEqual}
 use Rattle.typed_trees.specs.TypedTree.{NumberExprOf, TruthExprOf, number_literal, null_number, negated, arithmetic, number_of_date, scaled, text_column, date_column, truth_column, truth_literal, null_truth, negation, conjunction, disjunction, compare_numbers, compare_truths, number_in, text_in, truth_in, number_of_day}
 use Rattle.row_eval.specs.declared.truth.Truth.TheVariants.{False, Null, True}
 use Rattle.row_eval.specs.Outcome.{number_outcome, truth_outcome}

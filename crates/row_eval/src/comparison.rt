@@ -6,8 +6,8 @@ ghost use Rattle.std.specs.Ordering.{bool_cmp, int_cmp, nat_cmp};
 ghost use Rattle.typed_trees.specs.TypedTree.{optional_text};
 ghost use Rattle.row_eval.specs.Comparison.{compared, holds as holds_of, is_among, is_equal as is_equal_of};
 
+use cell_types::ComparisonOperator;
 use std::cmp::Ordering;
-use typed_trees::ComparisonOperator;
 
 /// Returns true if a comparison holds of values in an order; none stands for a value beside null.
 pub fn holds(operator: ComparisonOperator, order: Option<Ordering>) -> bool

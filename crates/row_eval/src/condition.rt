@@ -16,9 +16,9 @@ use crate::comparison::{boolean_among, boolean_order, holds};
 use crate::fault::EvalFault;
 use crate::relation::{number_is_in, numbers_hold, text_is_in, text_test_holds, texts_hold};
 use crate::truth::{Truth, greatest, least, opposite, optional_truth, truth_of, truth_value};
-use cell_types::Value;
+use cell_types::{ComparisonOperator, Value};
 use std::alloc::Global;
-use typed_trees::{ComparisonOperator, TruthExpr};
+use typed_trees::TruthExpr;
 
 /// Returns the truth in a column.
 fn boolean_at(row: &[Value<'_>], place: usize) -> Option<bool>

@@ -2,7 +2,7 @@
 
 ghost use Rattle.std.specs.Prelude.{◌≡◌, false, IfSome, FitsSigned};
 ghost use Rattle.std.specs.Int.{w128};
-ghost use Rattle.typed_trees.specs.TypedTree.{day_view, number_view, number_of_day as number_of_day_of};
+ghost use Rattle.typed_trees.specs.TypedTree.{number_view};
 ghost use Rattle.row_eval.specs.Bounds.{Fits, NumberFits};
 ghost use Rattle.row_eval.specs.Memory.{number_concatenates};
 ghost use Rattle.row_eval.specs.Outcome.{computed as computed_of, number_outcome, operation as operation_of};
@@ -12,10 +12,9 @@ ghost use Rattle.row_eval.specs.Row.{cell, number_in as number_in_of, row_view};
 use crate::date::eval_part;
 use crate::fault::EvalFault;
 use crate::text::{eval_text, index_in, length_in};
-use cell_types::Value;
-use jiff_core::civil::Date;
+use cell_types::{NumberKind, Value, number_in};
 use std::alloc::Global;
-use typed_trees::{ArithmeticOperator, MILLIONTHS, NumberExpr, NumberKind, day_number};
+use typed_trees::{ArithmeticOperator, MILLIONTHS, NumberExpr};
 
 /// Returns two numbers joined by an operator; none for a division by zero.
 fn operation(operator: ArithmeticOperator, left: i128, right: i128) -> Option<i128>
@@ -59,30 +58,13 @@ fn computed(
     }
 }
 
-/// Returns the number of a day.
-fn number_of_day(date: Date) -> i128
-    ensures { result ≡ number_of_day_of (day_view date) }
-{
-    i128::from(day_number(date))
-}
-
 /// Returns the number in a column of the kind; none for null.
 fn number_at(row: &[Value<'_>], kind: NumberKind, place: usize) -> Option<i128>
     ensures { result ≡ cell (number_in_of kind) (row_view row.now) place }
 {
-    match kind {
-        NumberKind::Integer => match row.get(place) {
-            Some(Value::Int(number)) => Some(*number),
-            _ => None,
-        },
-        NumberKind::Decimal => match row.get(place) {
-            Some(Value::Decimal(number)) => Some(*number),
-            _ => None,
-        },
-        NumberKind::Date => match row.get(place) {
-            Some(Value::Date(date)) => Some(number_of_day(*date)),
-            _ => None,
-        },
+    match row.get(place) {
+        Some(value) => number_in(kind, value),
+        None => None,
     }
 }
 

@@ -15,10 +15,10 @@ use crate::fault::EvalFault;
 use crate::number::eval_number;
 use crate::text::{eval_text, text_passes};
 use crate::truth::{Truth, optional_truth, truth_of};
-use cell_types::Value;
+use cell_types::{ComparisonOperator, Value};
 use std::alloc::Global;
 use std::borrow::CowStr;
-use typed_trees::{ComparisonOperator, NumberExpr, TextExpr, TextTest};
+use typed_trees::{NumberExpr, TextExpr, TextTest};
 
 /// Returns the text, if there is one.
 fn borrowed<'t>(text: &'t Option<CowStr<'_>>) -> Option<&'t str>

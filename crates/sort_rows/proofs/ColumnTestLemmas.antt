@@ -1,37 +1,37 @@
 -- Conditions that test a column.
 use Rattle.std.proofs.Common.{◌≡◌, inl, inr, ℕ, ℤ, Bool, true, false, not, cond, Some, None, Option, List, [], ◌∷◌, get_or, length, ltb, map, refl, sym, ap, ◌∙◌, subst, arith}
-use Rattle.std.specs.Prelude.{Err, IfOk, IfSome, Ok, Result, option_map, slice_get}
+use Rattle.std.specs.Prelude.{Err, IfOk, IfSome, Ok, Result, option_and_then, option_map, slice_get}
 use Rattle.std.specs.declared.alloc.AllocError.{AllocError}
 use Rattle.std.specs.Cmp.{IsTotalOrder}
 use Rattle.std.specs.Cmp.Lexicographic.{slice_cmp}
-use Rattle.std.specs.Ordering.{bool_cmp, int_cmp, nat_cmp, is_lt, ordering_reverse}
+use Rattle.std.specs.Ordering.{int_cmp, nat_cmp, is_lt, ordering_reverse}
 use Rattle.std.specs.declared.cmp.Ordering.{Ordering}
 use Rattle.std.specs.declared.cmp.Ordering.TheVariants.{Less, Equal, Greater}
 use Rattle.std.proofs.lemmas.Bool.{cases_Bool, false≢true, ltb-false}
 use Rattle.block_summary.specs.Ranges.{is_null}
-use Rattle.odata_query.specs.declared.plain.ColumnKind.{ColumnKind}
-use Rattle.odata_query.specs.declared.plain.ColumnKind.TheVariants as kinds
+use Rattle.cell_types.specs.declared.kind.ColumnKind.{ColumnKind}
+use Rattle.cell_types.specs.declared.kind.ColumnKind.TheVariants.{Text, Number}
 use Rattle.cell_types.specs.Value.{CellValue, boolean, decimal, integer, null, text, value_cmp}
-use Rattle.typed_trees.specs.declared.operator.ComparisonOperator.{ComparisonOperator}
-use Rattle.typed_trees.specs.declared.operator.ComparisonOperator.TheVariants.{GreaterOrEqual, GreaterThan, NotEqual}
-use Rattle.typed_trees.specs.declared.tree.NumberKind.TheVariants as numbers
-use Rattle.typed_trees.specs.TypedTree.{DateExprOf, DayOf, NumberExprOf, TextExprOf, TruthExprOf, compare_numbers, compare_texts, compare_truths, date_column, negation, number_column, number_of_date, text_column, truth_column, truth_view, typed_view}
+use Rattle.cell_types.specs.Kind.{number_of_truth}
+use Rattle.cell_types.specs.declared.comparison.ComparisonOperator.{ComparisonOperator}
+use Rattle.cell_types.specs.declared.comparison.ComparisonOperator.TheVariants.{GreaterOrEqual, GreaterThan, NotEqual}
+use Rattle.cell_types.specs.declared.kind.NumberKind.TheVariants as numbers
+use Rattle.typed_trees.specs.TypedTree.{DateExprOf, DayOf, NumberExprOf, TextExprOf, TruthExprOf, compare_numbers, compare_texts, date_column, negation, number_column, number_of_date, text_column, truth_view, typed_view}
 use Rattle.typed_trees.specs.declared.tree.TruthExpr.{TruthExpr}
 use Rattle.odata_query.specs.Query.{order_view}
 use Rattle.odata_query.specs.declared.query.OrderBy.{OrderBy}
 use Rattle.row_eval.specs.Bounds.{NumberFits, TruthFits}
 use Rattle.row_eval.specs.Comparison.{compared, day_cmp, holds}
 use Rattle.row_eval.specs.Laws.{DatesAreCompared, IsCalendarDay}
-use Rattle.row_eval.specs.Logic.{opposite, option_of_truth, truth_of, truth_of_option}
-use Rattle.row_eval.specs.declared.truth.Truth.{Truth}
+use Rattle.row_eval.specs.Logic.{opposite, truth_of}
 use Rattle.row_eval.specs.Outcome.{both, date_outcome, day_value, number_outcome, or_null, text_outcome, truth_outcome}
-use Rattle.row_eval.specs.Row.{boolean_in, cell, day_in, decimal_in, integer_in, text_in}
+use Rattle.row_eval.specs.Row.{boolean_in, cell, day_in, decimal_in, integer_in, number_in, text_in}
 use Rattle.query_meaning.specs.Order.{Item, item_value}
 use Rattle.odata_query.specs.Plain.{plain_at}
 use Rattle.sort_rows.specs.Cutoffs.{first_value, is_before, is_near, may_precede, moved_to, order_between, IsComparison, IsTest, IsTestOfColumn}
 use Rattle.sort_rows.specs.Plain.{column_value, of_kind, IsPlainColumn}
 use Rattle.odata_query.specs.declared.plain.PlainColumn.{PlainColumn}
-use Rattle.sort_rows.proofs.PlainLemmas.{read_there, then_in_turn, truth_again, value_is}
+use Rattle.sort_rows.proofs.PlainLemmas.{read_there, then_in_turn, value_is}
 
 -- ---- a column, compared with a value
 
@@ -60,7 +60,7 @@ module _ {X : Type 0} (make : X → CellValue) (cmp : X → X → Ordering) (som
       ap (λ y. truth_of (holds o (compared cmp y x))) (read_there read none row col) ∙ ap (λ order. truth_of (holds o order)) (between (read (get_or row col null)) x)
 
 pub integers_compared : (o : ComparisonOperator) (col : ℕ) (operand : NumberExprOf) (n : Option ℤ) → ((row : List CellValue) → number_outcome operand row ≡ Some n)
-    → ((row : List CellValue) → NumberFits operand row) → IsComparison o (plain_at kinds.Integer col) (or_null integer n) (compare_numbers o (number_column numbers.Integer col) operand)
+    → ((row : List CellValue) → NumberFits operand row) → IsComparison o (plain_at (Number numbers.Integer) col) (or_null integer n) (compare_numbers o (number_column numbers.Integer col) operand)
 unfolding value_cmp
 integers_compared o col operand n is fits = record {
   outcome = λ row days.
@@ -70,7 +70,7 @@ integers_compared o col operand n is fits = record {
 }
 
 pub decimals_compared : (o : ComparisonOperator) (col : ℕ) (operand : NumberExprOf) (n : Option ℤ) → ((row : List CellValue) → number_outcome operand row ≡ Some n)
-    → ((row : List CellValue) → NumberFits operand row) → IsComparison o (plain_at kinds.Decimal col) (or_null decimal n) (compare_numbers o (number_column numbers.Decimal col) operand)
+    → ((row : List CellValue) → NumberFits operand row) → IsComparison o (plain_at (Number numbers.Decimal) col) (or_null decimal n) (compare_numbers o (number_column numbers.Decimal col) operand)
 unfolding value_cmp
 decimals_compared o col operand n is fits = record {
   outcome = λ row days.
@@ -86,7 +86,7 @@ days_in_turn a b = sym (then_in_turn (int_cmp a.year b.year) (nat_cmp a.month b.
 
 pub dates_compared : DatesAreCompared → (o : ComparisonOperator) (col : ℕ) (operand : DateExprOf) (day : Option DayOf) → ((row : List CellValue) → date_outcome operand row ≡ day)
     → IfSome day IsCalendarDay → ((row : List CellValue) → NumberFits (number_of_date operand) row)
-    → IsComparison o (plain_at kinds.Date col) (or_null day_value day) (compare_numbers o (number_column numbers.Date col) (number_of_date operand))
+    → IsComparison o (plain_at (Number numbers.Date) col) (or_null day_value day) (compare_numbers o (number_column numbers.Date col) (number_of_date operand))
 dates_compared law o col operand day is calendar fits = record {
   outcome = λ row days.
       law.comparisons o (date_column col) operand row (days col) (subst (λ d. IfSome d IsCalendarDay) (sym (is row)) calendar)
@@ -96,7 +96,7 @@ dates_compared law o col operand day is calendar fits = record {
 }
 
 pub texts_compared : (o : ComparisonOperator) (col : ℕ) (operand : TextExprOf) (t : Option (List ℕ)) → ((row : List CellValue) → text_outcome operand row ≡ t)
-    → IsComparison o (plain_at kinds.Text col) (or_null text t) (compare_texts o (text_column col) operand)
+    → IsComparison o (plain_at Text col) (or_null text t) (compare_texts o (text_column col) operand)
 unfolding value_cmp
 texts_compared o col operand t is = record {
   outcome = λ row days.
@@ -105,20 +105,34 @@ texts_compared o col operand t is = record {
   fits = λ row. tt;
 }
 
-pub truth_operand : (b : Bool) → option_of_truth (truth_of b) ≡ Some b
-truth_operand true = refl
-truth_operand false = refl
-
-pub truths_compared : (o : ComparisonOperator) (col : ℕ) (operand : TruthExprOf) (t : Truth) (b : Option Bool) → ((row : List CellValue) → truth_outcome operand row ≡ Some t)
-    → option_of_truth t ≡ b → ((row : List CellValue) → TruthFits operand row) → IsComparison o (plain_at kinds.Boolean col) (or_null boolean b) (compare_truths o (truth_column col) operand)
+-- booleans are compared as their numbers
+truths_in_turn : (a b : Bool) → value_cmp (boolean a) (boolean b) ≡ int_cmp (number_of_truth a) (number_of_truth b)
 unfolding value_cmp
-truths_compared o col operand t b is same fits = record {
+truths_in_turn true true = refl
+truths_in_turn true false = refl
+truths_in_turn false true = refl
+truths_in_turn false false = refl
+
+truths_as_numbers : (x y : Option Bool)
+    → compared int_cmp (option_map number_of_truth x) (option_map number_of_truth y) ≡ compared (λ a b. int_cmp (number_of_truth a) (number_of_truth b)) x y
+truths_as_numbers None None = refl
+truths_as_numbers None (Some b) = refl
+truths_as_numbers (Some a) None = refl
+truths_as_numbers (Some a) (Some b) = refl
+
+truth_cell : (v : Option CellValue) → option_and_then (number_in numbers.Boolean) v ≡ option_map number_of_truth (option_and_then boolean_in v)
+truth_cell None = refl
+truth_cell (Some v) = refl
+
+pub truths_compared : (o : ComparisonOperator) (col : ℕ) (operand : NumberExprOf) (b : Option Bool) → ((row : List CellValue) → number_outcome operand row ≡ Some (option_map number_of_truth b))
+    → ((row : List CellValue) → NumberFits operand row) → IsComparison o (plain_at (Number numbers.Boolean) col) (or_null boolean b) (compare_numbers o (number_column numbers.Boolean col) operand)
+truths_compared o col operand b is fits = record {
   outcome = λ row days.
       let x = cell boolean_in row col in
-      ap (both (λ x y. truth_of (holds o (compared bool_cmp (option_of_truth x) (option_of_truth y)))) (Some (truth_of_option x))) (is row)
-      ∙ ap (λ y. Some (truth_of (holds o (compared bool_cmp (option_of_truth (truth_of_option x)) y)))) same
-      ∙ ap (λ x. Some (truth_of (holds o (compared bool_cmp x b)))) (truth_again x)
-      ∙ ap (λ t. Some t) (there_compared boolean bool_cmp (λ x. refl) (λ x y. refl) boolean_in refl o row col b);
+      ap (both (λ x y. truth_of (holds o (compared int_cmp x y))) (Some (cell (number_in numbers.Boolean) row col))) (is row)
+      ∙ ap (λ y. Some (truth_of (holds o (compared int_cmp y (option_map number_of_truth b))))) (truth_cell (slice_get row col))
+      ∙ ap (λ order. Some (truth_of (holds o order))) (truths_as_numbers x b)
+      ∙ ap (λ t. Some t) (there_compared boolean (λ a b. int_cmp (number_of_truth a) (number_of_truth b)) (λ x. refl) truths_in_turn boolean_in refl o row col b);
   fits = λ row. (tt, fits row);
 }
 

@@ -12,6 +12,7 @@ pub mod KeptLemmas
 pub mod NearLemmas
 pub mod CutoffLemmas
 pub mod ColumnTestLemmas
+pub mod NumberTestLemmas
 pub mod MergeLemmas
 pub mod RunLemmas
 pub mod RunKeyLemmas

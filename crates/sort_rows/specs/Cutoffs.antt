@@ -5,8 +5,8 @@ use Rattle.std.specs.declared.cmp.Ordering.{Ordering}
 use Rattle.std.specs.declared.cmp.Ordering.TheVariants.{Equal}
 use Rattle.block_summary.specs.Ranges.{is_null}
 use Rattle.cell_types.specs.Value.{CellValue, null, value_cmp}
-use Rattle.typed_trees.specs.declared.operator.ComparisonOperator.{ComparisonOperator}
-use Rattle.typed_trees.specs.declared.tree.NumberKind.{NumberKind}
+use Rattle.cell_types.specs.declared.comparison.ComparisonOperator.{ComparisonOperator}
+use Rattle.cell_types.specs.declared.kind.NumberKind.{NumberKind}
 use Rattle.typed_trees.specs.TypedTree.{NumberExprOf, TruthExprOf, compare_numbers, number_column}
 use Rattle.row_eval.specs.Bounds.{TruthFits}
 use Rattle.row_eval.specs.Comparison.{holds}
@@ -16,7 +16,7 @@ use Rattle.row_eval.specs.Outcome.{truth_outcome}
 use Rattle.row_eval.specs.Row.{cell, day_in}
 use Rattle.query_meaning.specs.Order.{Item, directed, item_value, ordered, plain_column, rows_cmp, sorted}
 use Rattle.odata_query.specs.Plain.{plain_at}
-use Rattle.odata_query.specs.declared.plain.ColumnKind.{ColumnKind}
+use Rattle.cell_types.specs.declared.kind.ColumnKind.TheVariants.{Number}
 use Rattle.odata_query.specs.declared.plain.PlainColumn.{PlainColumn}
 use Rattle.sort_rows.specs.Best.{best_rows}
 use Rattle.sort_rows.specs.Plain.{column_value}
@@ -93,6 +93,6 @@ abbrev pub IsComparison : ComparisonOperator → PlainColumn → CellValue → T
 IsComparison operator column value e = IsTestOfColumn column (λ v. holds operator (order_between v value)) e
 
 -- a column of a kind is compared with a value as its numbers are with another
-abbrev pub ComparesAs : ColumnKind → CellValue → NumberKind → NumberExprOf → Type 0
-ComparesAs kind value numbers number =
-    (o : ComparisonOperator) (col : ℕ) → IsComparison o (plain_at kind col) value (compare_numbers o (number_column numbers col) number)
+abbrev pub ComparesAs : NumberKind → CellValue → NumberExprOf → Type 0
+ComparesAs kind value number =
+    (o : ComparisonOperator) (col : ℕ) → IsComparison o (plain_at (Number kind) col) value (compare_numbers o (number_column kind col) number)

@@ -1,18 +1,18 @@
 //! Conditions on the rows of a block that tell which of them may be among the first in the order of `$orderby`, judged by the first item (OData 4.01 URL
 //! Conventions, sections 5.1.5 and 5.1.6).
-ghost use Rattle.std.specs.Prelude.{◌≡◌, ◌<◌, [], Bool, Some, not, IfOk, IfSome, length, map, option_map, slice_index_or};
+ghost use Rattle.std.specs.Prelude.{◌≡◌, ◌<◌, [], Bool, Some, not, IfOk, IfSome, length, map, slice_index_or};
 ghost use Rattle.cell_types.specs.Value.{CellValue, value_view};
-ghost use Rattle.typed_trees.specs.TypedTree.{compare_numbers, compare_texts, compare_truths, number_column, number_view, text_view, truth_view};
+ghost use Rattle.typed_trees.specs.TypedTree.{compare_numbers, compare_texts, number_column, number_view, text_view, truth_view};
 ghost use Rattle.odata_query.specs.Query.{order_view};
 ghost use Rattle.sort_rows.specs.Cutoffs.{first_place as first_place_of, first_value, is_before, is_near, may_precede, moved_to, ComparesAs, IsComparison, IsTest, IsTestOfColumn};
 ghost use Rattle.odata_query.specs.declared.plain.PlainColumn.{PlainColumn as ColumnOf};
 
 use crate::plain::{column_value, item_column};
-use cell_types::Value;
-use odata_query::{ColumnKind, OrderBy, PlainColumn};
+use cell_types::{ColumnKind, ComparisonOperator, NumberKind, Value, number_in};
+use odata_query::{OrderBy, PlainColumn};
 use row_columns::Columns;
 use std::alloc::{AllocError, Global};
-use typed_trees::{ComparisonOperator, NumberExpr, NumberKind, TextExpr, TruthExpr, day_number};
+use typed_trees::{NumberExpr, TextExpr, TruthExpr};
 
 /// Returns the comparison of a column of numbers with an operand.
 fn compare_numbers(
@@ -44,45 +44,22 @@ fn compare_texts(
     Ok(Some(TruthExpr::CompareTexts(operator, left, right)))
 }
 
-/// Returns the comparison of a column of booleans with an operand.
-fn compare_truths(
-    alloc: Global,
-    operator: ComparisonOperator,
-    column: TruthExpr,
-    operand: TruthExpr,
-) -> Result<Option<TruthExpr>, AllocError>
-    ensures { IfOk result (λ made. IfSome made (λ e. truth_view e
-        ≡ compare_truths operator (truth_view column) (truth_view operand))) }
-{
-    let (left, right) = (Box::new(alloc, column)?, Box::new(alloc, operand)?);
-    Ok(Some(TruthExpr::CompareTruths(operator, left, right)))
-}
-
-/// Returns what the numbers of a column of this kind stand for, and a value of its type or null as such a number. `None` for other kinds and values.
-fn as_number(kind: ColumnKind, value: &Value<'_>) -> Option<(NumberKind, NumberExpr)>
+/// Returns a value of this kind or null as the number that stands for it, or `None` for a value of another kind.
+fn as_number(kind: NumberKind, value: &Value<'_>) -> Option<NumberExpr>
     ensures { IfSome result
-        (λ made. ComparesAs kind (value_view value.now) made.0 (number_view made.1)) }
+        (λ number. ComparesAs kind (value_view value.now) (number_view number)) }
 {
     row_eval::dates_are_compared();
-    match (kind, value) {
-        (ColumnKind::Integer, Value::Int(number)) => {
-            Some((NumberKind::Integer, NumberExpr::Literal(*number)))
-        }
-        (ColumnKind::Integer, Value::Null) => Some((NumberKind::Integer, NumberExpr::Null)),
-        (ColumnKind::Decimal, Value::Decimal(number)) => {
-            Some((NumberKind::Decimal, NumberExpr::Literal(*number)))
-        }
-        (ColumnKind::Decimal, Value::Null) => Some((NumberKind::Decimal, NumberExpr::Null)),
-        (ColumnKind::Date, Value::Date(date)) => {
-            let day = i128::from(day_number(*date));
-            Some((NumberKind::Date, NumberExpr::Literal(day)))
-        }
-        (ColumnKind::Date, Value::Null) => Some((NumberKind::Date, NumberExpr::Null)),
-        _ => None,
+    match value {
+        Value::Null => Some(NumberExpr::Null),
+        value => match number_in(kind, value) {
+            Some(number) => Some(NumberExpr::Literal(number)),
+            None => None,
+        },
     }
 }
 
-/// Returns the comparison of a column with a value of its type or null, or `None` for a value of another type.
+/// Returns the comparison of a column with a value of its kind or null, or `None` for a value of another kind.
 fn comparison(
     alloc: Global,
     operator: ComparisonOperator,
@@ -101,17 +78,11 @@ fn comparison(
         (ColumnKind::Text, Value::Null) => {
             compare_texts(alloc, operator, TextExpr::Column(col), TextExpr::Null)
         }
-        (ColumnKind::Boolean, Value::Bool(truth)) => {
-            let truth = TruthExpr::Literal(*truth);
-            compare_truths(alloc, operator, TruthExpr::Column(col), truth)
-        }
-        (ColumnKind::Boolean, Value::Null) => {
-            compare_truths(alloc, operator, TruthExpr::Column(col), TruthExpr::Null)
-        }
-        (kind, value) => match as_number(kind, value) {
-            Some((kind, operand)) => compare_numbers(alloc, operator, kind, col, operand),
+        (ColumnKind::Number(kind), value) => match as_number(kind, value) {
+            Some(operand) => compare_numbers(alloc, operator, kind, col, operand),
             None => Ok(None),
         },
+        _ => Ok(None),
     }
 }
 

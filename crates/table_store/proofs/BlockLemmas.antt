@@ -5,16 +5,17 @@ use Rattle.std.specs.declared.alloc.AllocError.{AllocError}
 use Rattle.std.proofs.lemmas.Bool.{cases_order}
 use Rattle.std.proofs.lemmas.List.{length-take, length-drop, take_all, take-map, drop-map}
 use Rattle.block_summary.specs.declared.block.TheConstants.{BLOCK_ROWS}
-use Rattle.block_summary.specs.declared.number.PackedType.{PackedType}
+use Rattle.cell_types.specs.declared.kind.ColumnKind.{ColumnKind}
+use Rattle.cell_types.specs.declared.kind.ColumnKind.TheVariants.{Text, Number}
 use Rattle.block_summary.specs.Ranges.{column_of}
-use Rattle.block_summary.specs.Reading.{packed_type_of}
+use Rattle.cell_types.specs.Kind.{kind_of}
 use Rattle.cell_types.specs.Column.{ColumnOf}
 use Rattle.cell_types.specs.Datatype.{DatatypeOf, is_text, integer, text, boolean, date, decimal}
 use Rattle.cell_types.specs.Value.{CellValue, null}
 use Rattle.csv_grammar.proofs.ListLaws.{slice_get-drop, slice_get-take}
 use Rattle.table_store.specs.Table.{TableOf}
 use Rattle.table_store.specs.Block.{block_of, packed_cells, part, text_cells, typed_cells_of}
-use Rattle.column_blocks.specs.TypedColumn.{block_in, cells_of_texts, typed_cells, ColumnCells}
+use Rattle.column_blocks.specs.TypedColumn.{block_in, cells_of_numbers, cells_of_texts, typed_cells, ColumnCells}
 use Rattle.table_store.proofs.ColumnLemmas.{there}
 
 -- the first of a list, as many as are asked for or as there are
@@ -48,10 +49,10 @@ column_of-part rows first n col =
 
 -- those that are packed
 pub packed_part : (table : TableOf) (column : ColumnOf) (first n col : ℕ) → slice_get table.schema.columns col ≡ Some column
-    → option_map (λ (type : PackedType). take n (drop first (column_of table.rows col))) (packed_type_of column.datatype) ≡ packed_cells (part table first n) col
+    → cells_of_numbers (kind_of column.datatype) (take n (drop first (column_of table.rows col))) ≡ packed_cells (part table first n) col
 packed_part table column first n col at =
-    let some : ColumnOf → Option (List CellValue) = λ column. option_map (λ type. column_of (take n (drop first table.rows)) col) (packed_type_of column.datatype) in
-    ap (λ (cells : List CellValue). option_map (λ (type : PackedType). cells) (packed_type_of column.datatype)) (sym (column_of-part table.rows first n col))
+    let some : ColumnOf → Option (List CellValue) = λ column. cells_of_numbers (kind_of column.datatype) (column_of (take n (drop first table.rows)) col) in
+    ap (cells_of_numbers (kind_of column.datatype)) (sym (column_of-part table.rows first n col))
     ∙ ap (option_and_then some) (sym at)
 
 -- those that are shared
@@ -69,7 +70,7 @@ shared_part table column kept number col (Ok shared) at is h =
 shared_part table column kept number col (Err e) at is h = tt
 
 -- and those of texts
-texts_by : (datatype : DatatypeOf) (cells : List CellValue) → cells_of_texts (packed_type_of datatype) cells ≡ cond (is_text datatype) (Some cells) None
+texts_by : (datatype : DatatypeOf) (cells : List CellValue) → cells_of_texts (kind_of datatype) cells ≡ cond (is_text datatype) (Some cells) None
 texts_by integer cells = refl
 texts_by text cells = refl
 texts_by (boolean of_true of_false) cells = refl
@@ -77,20 +78,20 @@ texts_by (date form) cells = refl
 texts_by decimal cells = refl
 
 pub text_part : (table : TableOf) (column : ColumnOf) (first n col : ℕ) → slice_get table.schema.columns col ≡ Some column
-    → cells_of_texts (packed_type_of column.datatype) (take n (drop first (column_of table.rows col))) ≡ text_cells (part table first n) col
+    → cells_of_texts (kind_of column.datatype) (take n (drop first (column_of table.rows col))) ≡ text_cells (part table first n) col
 text_part table column first n col at =
     let some : ColumnOf → Option (List CellValue) = λ column. cond (is_text column.datatype) (Some (column_of (take n (drop first table.rows)) col)) None in
-    ap (cells_of_texts (packed_type_of column.datatype)) (sym (column_of-part table.rows first n col))
+    ap (cells_of_texts (kind_of column.datatype)) (sym (column_of-part table.rows first n col))
     ∙ texts_by column.datatype (column_of (take n (drop first table.rows)) col) ∙ ap (option_and_then some) (sym at)
 
 packed_of : (column : Option ColumnOf) (kept cells : List CellValue)
-    → option_and_then (λ (c : ColumnOf). option_map (λ (type : PackedType). kept) (packed_type_of c.datatype)) column ≡ Some cells → kept ≡ cells
+    → option_and_then (λ (c : ColumnOf). cells_of_numbers (kind_of c.datatype) kept) column ≡ Some cells → kept ≡ cells
 packed_of None kept cells e = cc
-packed_of (Some column) kept cells e = typed (packed_type_of column.datatype) e
+packed_of (Some column) kept cells e = typed (kind_of column.datatype) e
   where
-    typed : (type : Option PackedType) → option_map (λ (t : PackedType). kept) type ≡ Some cells → kept ≡ cells
-    typed None f = cc
-    typed (Some t) f = cc
+    typed : (kind : ColumnKind) → cells_of_numbers kind kept ≡ Some cells → kept ≡ cells
+    typed Text f = cc
+    typed (Number kind) f = cc
 
 -- the cells of a block that are packed are those of the column
 pub packed_is : (block : TableOf) (col : ℕ) (cells : List CellValue) → packed_cells block col ≡ Some cells → column_of block.rows col ≡ cells
@@ -109,7 +110,7 @@ pub text_is : (block : TableOf) (col : ℕ) (cells : List CellValue) → text_ce
 text_is block col cells e = text_of (slice_get block.schema.columns col) (column_of block.rows col) cells e
 
 -- a column is packed or has texts
-packed_or_text : (datatype : DatatypeOf) (cells : List CellValue) → option_map (λ (type : PackedType). cells) (packed_type_of datatype) ≡ None
+packed_or_text : (datatype : DatatypeOf) (cells : List CellValue) → cells_of_numbers (kind_of datatype) cells ≡ None
     → cond (is_text datatype) (Some cells) None ≡ None → ⊥
 packed_or_text integer cells e f = cc
 packed_or_text text cells e f = cc
@@ -121,6 +122,6 @@ pub either_kept : (block : TableOf) (col : ℕ) → col < length block.schema.co
 either_kept block col within e f =
     let here = there block.schema.columns col within in
     let cells = column_of block.rows col in
-    let packed : ColumnOf → Option (List CellValue) = λ column. option_map (λ type. cells) (packed_type_of column.datatype) in
+    let packed : ColumnOf → Option (List CellValue) = λ column. cells_of_numbers (kind_of column.datatype) cells in
     let texts : ColumnOf → Option (List CellValue) = λ column. cond (is_text column.datatype) (Some cells) None in
     packed_or_text here.0.datatype cells (ap (option_and_then packed) (sym here.1) ∙ e) (ap (option_and_then texts) (sym here.1) ∙ f)

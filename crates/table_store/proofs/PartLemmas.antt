@@ -95,7 +95,7 @@ part_readers total columns rows readers more have room = record {
   each = λ col column reader at is.
       let cells = column_of rows col in
       let size : length cells + more ≤ total = omega (arith, room, length-map rows (λ values. get_or values col null)) in
-      let here : HasPartReader column (reader_at total column cells) more = record { type = refl; room = size } in
+      let here : HasPartReader column (reader_at total column cells) more = record { kind = refl; room = size } in
       subst (λ r. HasPartReader column r more) (same_Some (reader_at total column cells) reader (sym (have.each col column at) ∙ is)) here;
 }
 

@@ -45,7 +45,7 @@ pub of_columns : (columns : List ColumnOf) (rows : List (List CellValue)) (typed
 of_columns columns rows typed are = record {
   count = are.count;
   each = λ col column cells at is.
-      ap (λ (c : ColumnCells). c.packed_type) (same_Some cells (typed_cells column (column_of rows col)) (sym is ∙ are.each col column at));
+      ap (λ (c : ColumnCells). c.kind) (same_Some cells (typed_cells column (column_of rows col)) (sym is ∙ are.each col column at));
 }
 
 pub join_columns : (first : ℕ) (columns : List ColumnOf) (rows : List (List RawField)) (front later : List ColumnCells) → HasColumns first columns rows front
@@ -58,7 +58,7 @@ join_columns first columns rows front later before of whole = record {
       let same = same_Some a (typed_cells here.0 (column_of values col)) (sym is ∙ before.cells.each col here.0 here.1) in
       let size : length a.cells ≡ length rows =
       ap (λ (c : ColumnCells). length c.cells) same ∙ length-map values (λ values. get_or values col null) ∙ length-rows_in columns rows in
-      (of.each col here.0 b here.1 after ∙ sym (ap (λ (c : ColumnCells). c.packed_type) same), (whole.0, size ∙ whole.1));
+      (of.each col here.0 b here.1 after ∙ sym (ap (λ (c : ColumnCells). c.kind) same), (whole.0, size ∙ whole.1));
 }
 
 -- ---- the first cell that has no value

@@ -1,8 +1,9 @@
 -- Blocks of rows: the rows of a table in their order, up to a number of rows each.
 pub use Rattle.block_summary.specs.Blocks.{block_count}
+pub use Rattle.column_blocks.specs.TypedColumn.{cells_of_numbers}
 use Rattle.std.specs.Prelude.{◌≡◌, ◌+◌, ◌*◌, ◌-◌, ◌/◌, ◌≤◌, ◌^◌, ◌<◌, ℕ, min, if◌then◌else◌, List, length, take, drop, Option, Some, None, option_and_then, option_map, slice_get}
 use Rattle.block_summary.specs.Ranges.{column_of}
-use Rattle.block_summary.specs.Reading.{packed_type_of}
+use Rattle.cell_types.specs.Kind.{kind_of}
 use Rattle.cell_types.specs.Column.{ColumnOf}
 use Rattle.cell_types.specs.Datatype.{is_text}
 use Rattle.cell_types.specs.Value.{CellValue}
@@ -34,14 +35,14 @@ pub record IsPartOfTable (block : Inside) : Type 0 where
 -- the cells of a column that is none of texts
 abbrev pub packed_cells : TableOf → ℕ → Option (List CellValue)
 packed_cells block col =
-    option_and_then (λ (column : ColumnOf). option_map (λ type. column_of block.rows col) (packed_type_of column.datatype)) (slice_get block.schema.columns col)
+    option_and_then (λ (column : ColumnOf). cells_of_numbers (kind_of column.datatype) (column_of block.rows col)) (slice_get block.schema.columns col)
 
 -- the cells of a column of texts
 abbrev pub text_cells : TableOf → ℕ → Option (List CellValue)
 text_cells block col =
     option_and_then (λ (column : ColumnOf). if is_text column.datatype then Some (column_of block.rows col) else None) (slice_get block.schema.columns col)
 
--- the cells of a column, and what its numbers stand for, where it is none of texts
+-- the cells of a column, and their kind
 abbrev pub typed_cells_of : TableOf → ℕ → Option ColumnCells
 typed_cells_of block col = option_map (λ (column : ColumnOf). typed_cells column (column_of block.rows col)) (slice_get block.schema.columns col)
 

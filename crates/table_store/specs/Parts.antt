@@ -5,7 +5,7 @@ use Rattle.cell_types.specs.declared.fault.CellFault.{CellFault}
 use Rattle.cell_types.specs.declared.fault.CellFault.TheVariants.{NoMemory}
 use Rattle.cell_types.specs.declared.column.Column.{Column}
 use Rattle.cell_types.specs.Column.{column_view, ColumnOf}
-use Rattle.block_summary.specs.Reading.{packed_type_of}
+use Rattle.cell_types.specs.Kind.{kind_of}
 use Rattle.csv_grammar.specs.Raw.{RawField, field_of}
 use Rattle.column_blocks.specs.ColumnReader.{ReaderOf, with_cells}
 use Rattle.column_blocks.specs.Parts.{part_cells, PartHasValues}
@@ -18,7 +18,7 @@ AllColumnsHaveValues columns rows = (col : ℕ) (column : ColumnOf) → slice_ge
 
 -- a reader of the column with room for `rows` cells
 pub record HasPartReader (column : ColumnOf) (reader : ReaderOf) (rows : ℕ) : Type 0 where
-  pub type : packed_type_of column.datatype ≡ reader.packed_type
+  pub kind : kind_of column.datatype ≡ reader.kind
   pub room : length reader.cells + rows ≤ reader.rows
 
 -- each column has one

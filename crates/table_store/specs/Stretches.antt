@@ -1,6 +1,6 @@
 -- What is read of the rows of a file from one on.
 use Rattle.std.specs.Prelude.{◌≡◌, ℕ, ◌+◌, ◌-◌, ◌<◌, ◌≤◌, List, [], ◌++◌, length, drop, take, Option, None, Some, IfOk, Result, Ok, Err, Vec, slice_get}
-use Rattle.block_summary.specs.Reading.{packed_type_of}
+use Rattle.cell_types.specs.Kind.{kind_of}
 use Rattle.cell_types.specs.Column.{ColumnOf}
 use Rattle.csv_grammar.specs.Raw.{RawField}
 use Rattle.csv_fields.specs.Values.{rows_in}
@@ -28,17 +28,17 @@ AreReadTogether front None read = read ≡ front
 AreReadTogether front (Some after) read = (first : ℕ) (columns : List ColumnOf) (rows rest : List (List RawField))
     → IsReadFrom first columns rows front → IsReadFrom (first + length rows) columns rest after → IsReadFrom first columns (rows ++ rest) read
 
--- as many columns as those, each of the type of its own
+-- as many columns as those, each of the kind of its own
 pub record AreOfColumns (columns : List ColumnOf) (read : List ColumnCells) : Type 0 where
   pub count : length read ≡ length columns
   pub each : (col : ℕ) (column : ColumnOf) (cells : ColumnCells) → slice_get columns col ≡ Some column → slice_get read col ≡ Some cells
-      → cells.packed_type ≡ packed_type_of column.datatype
+      → cells.kind ≡ kind_of column.datatype
 
--- the second columns may follow the first: they are as many, of the same types, and the first fill their blocks
+-- the second columns may follow the first: they are as many, of the same kinds, and the first fill their blocks
 pub record Join (front after : List ColumnCells) : Type 0 where
   pub count : length after ≡ length front
   pub each : (col : ℕ) (a b : ColumnCells) → slice_get front col ≡ Some a → slice_get after col ≡ Some b
-      → (b.packed_type ≡ a.packed_type) × AreWholeBlocks (length a.cells)
+      → (b.kind ≡ a.kind) × AreWholeBlocks (length a.cells)
 
 -- so may the columns that are read of rows and of those after them, if both are columns
 abbrev pub AreToJoin : {A : Type 0} → Result (Vec ColumnCells A) BadCell → Option (Result (Vec ColumnCells A) BadCell) → Type 0

@@ -110,7 +110,7 @@ impl<'t> Block<'t> {
     }
 
     /// Writes the number of each row in a column that is none of texts, and marks the nulls. A decimal is written in millionths, a day by its
-    /// number ([`block_summary::day_number`]), false as 0 and true as 1; at a null stands any number.
+    /// number ([`cell_types::day_number`]), false as 0 and true as 1; at a null stands any number.
     pub fn numbers(&self, col: usize, numbers: &mut [i64], nulls: &mut [bool])
         requires col { col < length self.now.schema.columns }
         requires numbers { HasNumbers self.now col }

@@ -12,11 +12,12 @@ use crate::question::{TextQuestion, answer_of};
 use crate::relation::TextRelation;
 use crate::search::contain;
 use crate::texts::Texts;
+use cell_types::ComparisonOperator;
 use number_kernels::Fallback;
 use row_eval::Truth;
 use std::alloc::Global;
 use text_columns::{TextCodes, TextColumn};
-use typed_trees::{ComparisonOperator, TextTest};
+use typed_trees::TextTest;
 
 /// Returns what is said of the text of a row, if it is wanted.
 #[inline(always)]

@@ -1,7 +1,7 @@
 //! `eq` (OData 4.01 URL Conventions, section 5.1.1.1.1) between all texts of a column and one.
 
 ghost use Rattle.std.specs.Prelude.{◌≡◌, ◌<◌, ℕ, Some, IfOk, length, option_map};
-ghost use Rattle.typed_trees.specs.declared.operator.ComparisonOperator.TheVariants.{Equal};
+ghost use Rattle.cell_types.specs.declared.comparison.ComparisonOperator.TheVariants.{Equal};
 ghost use Rattle.number_kernels.specs.Lanes.{truth_lane, HasTruths};
 ghost use Rattle.text_kernels.specs.Texts.{related, text_at};
 ghost use Rattle.text_kernels.specs.declared.relation.TextRelation.TheVariants.{Comparison};

@@ -7,9 +7,10 @@ ghost use Rattle.std.specs.Str.{bytes_eq};
 ghost use Rattle.row_eval.specs.Comparison.{compared, holds as holds_of, is_equal};
 ghost use Rattle.text_kernels.specs.Texts.{related};
 
+use cell_types::ComparisonOperator;
 use row_eval::{Truth, holds, text_passes, truth_of};
 use std::cmp::Ordering;
-use typed_trees::{ComparisonOperator, TextTest};
+use typed_trees::TextTest;
 
 /// What two texts are asked for.
 #[derive(Clone, Copy)]

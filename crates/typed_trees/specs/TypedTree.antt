@@ -1,15 +1,16 @@
 -- Typed expressions, whichever memory keeps them (OData 4.01 URL Conventions, section 5.1.1).
-use Rattle.std.specs.Prelude.{ℕ, ℤ, Bool, List, Option, map, option_map, string_bytes, Box, String, ◌+◌, ◌*◌, ◌+ℤ◌, ◌*ℤ◌, pos}
+pub use Rattle.cell_types.specs.Kind.{DayOf, number_of_day}
+use Rattle.std.specs.Prelude.{ℕ, ℤ, Bool, List, Option, map, option_map, string_bytes, Box, String}
 use Rattle.jiff_core.specs.declared.civil.date.Date.{Date}
 use Rattle.typed_trees.specs.declared.operator.ArithmeticOperator.{ArithmeticOperator}
-use Rattle.typed_trees.specs.declared.operator.ComparisonOperator.{ComparisonOperator}
+use Rattle.cell_types.specs.declared.comparison.ComparisonOperator.{ComparisonOperator}
 use Rattle.typed_trees.specs.declared.tree.DateExpr.{DateExpr}
 use Rattle.typed_trees.specs.declared.tree.DateExpr.TheVariants as dates
 use Rattle.typed_trees.specs.declared.tree.TextExpr.{TextExpr}
 use Rattle.typed_trees.specs.declared.tree.TextExpr.TheVariants as texts
 use Rattle.typed_trees.specs.declared.tree.DatePart.{DatePart}
-use Rattle.typed_trees.specs.declared.tree.NumberKind.{NumberKind}
-use Rattle.typed_trees.specs.declared.tree.NumberKind.TheVariants as kind
+use Rattle.cell_types.specs.declared.kind.NumberKind.{NumberKind}
+use Rattle.cell_types.specs.declared.kind.NumberKind.TheVariants as kind
 use Rattle.typed_trees.specs.declared.tree.NumberExpr.{NumberExpr}
 use Rattle.typed_trees.specs.declared.tree.NumberExpr.TheVariants as numbers
 use Rattle.typed_trees.specs.declared.tree.TextTest.{TextTest}
@@ -18,18 +19,8 @@ use Rattle.typed_trees.specs.declared.tree.TruthExpr.TheVariants as truths
 use Rattle.typed_trees.specs.declared.tree.TypedExpr.{TypedExpr}
 use Rattle.typed_trees.specs.declared.tree.TypedExpr.TheVariants as typed
 
--- a day of the calendar
-pub record DayOf : Type 0 where
-  pub year : ℤ
-  pub month : ℕ
-  pub day : ℕ
-
 abbrev pub day_view : Date → DayOf
 day_view date = record { year = date.year; month = date.month; day = date.day }
-
--- the number of a day: of two days the later has the greater number
-abbrev pub number_of_day : DayOf → ℤ
-number_of_day day = (day.year *ℤ pos 512) +ℤ pos (32 * day.month + day.day)
 
 -- a date: null, the column with a number, or a literal
 pub data DateExprOf : Type 0 where
@@ -54,7 +45,7 @@ text_view (texts.Column place) = text_column place
 text_view (texts.Literal text) = text_literal (string_bytes text)
 text_view (texts.Concat' p a q b) = concat (text_view a) (text_view b)
 
--- a number stands for an integer, for a decimal in millionths, or for a day
+-- a number stands for a value of a kind of numbers
 pub data NumberExprOf : Type 0 where
   null_number : NumberExprOf
   number_column : NumberKind → ℕ → NumberExprOf

@@ -2,15 +2,12 @@
 //! its type. The operators of numbers and of comparison, the trees, and which of them may divide by zero.
 #![tactic(auto)]
 
-mod day;
 mod division;
 mod operator;
 mod tree;
 
-pub use day::day_number;
 pub use division::{can_fault, truth_can_fault};
-pub use operator::{ArithmeticOperator, ComparisonOperator};
+pub use operator::ArithmeticOperator;
 pub use tree::{
-    DateExpr, DatePart, MILLIONTHS, NumberExpr, NumberKind, TextExpr, TextTest, TruthExpr,
-    TypedExpr,
+    DateExpr, DatePart, MILLIONTHS, NumberExpr, TextExpr, TextTest, TruthExpr, TypedExpr,
 };

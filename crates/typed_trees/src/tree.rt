@@ -1,7 +1,8 @@
 //! Typed expressions. The types are in layers: dates and texts know no other, numbers know them, and truths know all. A column is its
 //! number, counted from 0; where a row has no value of the type there, it is null.
 
-use crate::operator::{ArithmeticOperator, ComparisonOperator};
+use crate::operator::ArithmeticOperator;
+use cell_types::{ComparisonOperator, NumberKind};
 use jiff_core::civil::Date;
 
 /// How many millionths a whole is. A decimal is a number of millionths.
@@ -32,15 +33,7 @@ pub enum DatePart {
     Day,
 }
 
-/// What the numbers of a column stand for: integers, decimals in millionths, or days, numbered so that the later has the greater number.
-#[derive(Clone, Copy, PartialEq, Eq)]
-pub enum NumberKind {
-    Integer,
-    Decimal,
-    Date,
-}
-
-/// A number or null. Both sides of an operator or a comparison stand for the same: integers, decimals in millionths, or days.
+/// A number or null. Both sides of an operator or a comparison stand for values of the same kind.
 #[derive(Drop)]
 pub enum NumberExpr {
     Null,

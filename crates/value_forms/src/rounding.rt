@@ -5,7 +5,8 @@ ghost use Rattle.cell_types.specs.Decimal.{signed};
 ghost use Rattle.value_forms.specs.Rounding.{are_zeros, in_six_places, is_fine, is_finer, nearest_even};
 
 use crate::decimal::{are_digits, is_negative, parts, without_sign};
-use reply_values::push_decimal;
+use cell_types::Value;
+use reply_values::push_value;
 use std::alloc::{AllocError, Global};
 
 /// The decimal places of a column of CSVW that is served.
@@ -124,6 +125,7 @@ pub fn rounded_text(alloc: Global, number: &[u8]) -> Result<Option<Rounded>, All
     }
     let (millionths, difference) = nearest(whole, places);
     let mut text = Vec::new(alloc);
-    push_decimal(&mut text, with_sign(is_negative(number), millionths))?;
+    let millionths = with_sign(is_negative(number), millionths);
+    push_value::<false>(&mut text, &Value::Decimal(millionths))?;
     Ok(Some(Rounded { text, difference }))
 }

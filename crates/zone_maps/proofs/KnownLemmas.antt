@@ -3,9 +3,10 @@ use Rattle.std.proofs.Common.{◌≡◌, ℕ, Option, Some, None, List, [], ◌�
 use Rattle.std.specs.Prelude.{IfSome}
 use Rattle.std.specs.Cmp.Lexicographic.{slice_cmp}
 use Rattle.std.specs.Ordering.{nat_cmp}
+use Rattle.cell_types.specs.declared.kind.ColumnKind.TheVariants.{Text}
 use Rattle.cell_types.specs.Value.{CellValue, null}
 use Rattle.block_summary.specs.Ranges.{RangeOf}
-use Rattle.typed_trees.specs.declared.operator.ComparisonOperator.{ComparisonOperator}
+use Rattle.cell_types.specs.declared.comparison.ComparisonOperator.{ComparisonOperator}
 use Rattle.typed_trees.specs.TypedTree.{TextExprOf, compare_texts}
 use Rattle.typed_trees.specs.TypedTree as typed
 use Rattle.row_eval.specs.declared.truth.Truth.{Truth}
@@ -13,7 +14,6 @@ use Rattle.row_eval.specs.Comparison.{compared, holds}
 use Rattle.row_eval.specs.Logic.{truth_of, truth_of_option}
 use Rattle.row_eval.specs.Outcome.{text_outcome}
 use Rattle.row_eval.specs.Row.{boolean_in, cell, text_in}
-use Rattle.zone_maps.specs.declared.kinds.Kind.TheVariants.{Text}
 use Rattle.zone_maps.specs.Known.{cell_at_place, HaveCellAlone, HasTruth, IsConstantText, IsKnown}
 
 -- what is read of the cell at a place; of null, which stands where there is none, nothing

@@ -1,22 +1,25 @@
 -- Numbers, the values that they stand for, and columns of numbers that are compared with them.
 use Rattle.std.proofs.Common.{◌≡◌, ◌≤◌, ◌<◌, ◌/◌, ◌%◌, ℕ, zero, suc, Bool, true, false, cond, Option, Some, None, List, [], ◌∷◌, refl, sym, ap, ◌∙◌, subst, arith}
 use Rattle.std.specs.Prelude.{ℤ, pos, negsuc, ◌≤ℤ◌, ◌<ℤ◌, IfSome, option_map}
-use Rattle.std.specs.Ordering.{int_cmp}
+use Rattle.std.specs.Ordering.{int_cmp, int_eq}
+use Rattle.std.proofs.lemmas.Bool.Decides.{Decides-int_eq}
 use Rattle.std.proofs.lemmas.Int.{ints}
 use Rattle.jiff_core.specs.Calendar.{days_in_month, IsDate}
 use Rattle.jiff_core.specs.Date.{IsYmd}
 use Rattle.jiff_core.specs.declared.civil.date.Date.{Date}
+use Rattle.cell_types.specs.declared.kind.ColumnKind.TheVariants.{Number}
 use Rattle.cell_types.specs.Column.{ColumnOf}
 use Rattle.cell_types.specs.Datatype as datatype
 use Rattle.cell_types.specs.Datatype.{DatatypeOf}
 use Rattle.cell_types.specs.Date.{is_date}
+use Rattle.cell_types.specs.Kind.{is_of_kind}
 use Rattle.cell_types.specs.Laws.{DatesReadBack, IsOfColumn, IsOfDatatype}
 use Rattle.cell_types.specs.Rows.{IsTableRow}
-use Rattle.cell_types.specs.Value.{CellValue, date, decimal, integer, null}
+use Rattle.cell_types.specs.Value.{CellValue, boolean, date, decimal, integer, null}
 use Rattle.block_summary.specs.Ranges.{RangeOf}
-use Rattle.typed_trees.specs.declared.operator.ComparisonOperator.{ComparisonOperator}
-use Rattle.typed_trees.specs.declared.tree.NumberKind.{NumberKind}
-use Rattle.typed_trees.specs.declared.tree.NumberKind.TheVariants as numbers
+use Rattle.cell_types.specs.declared.comparison.ComparisonOperator.{ComparisonOperator}
+use Rattle.cell_types.specs.declared.kind.NumberKind.{NumberKind}
+use Rattle.cell_types.specs.declared.kind.NumberKind.TheVariants as numbers
 use Rattle.typed_trees.specs.TypedTree as typed
 use Rattle.typed_trees.specs.TypedTree.{DayOf, NumberExprOf, compare_numbers, number_of_day}
 use Rattle.row_eval.specs.declared.truth.Truth.{Truth}
@@ -25,9 +28,8 @@ use Rattle.row_eval.specs.Laws.{DatesAreCompared, IsCalendarDay}
 use Rattle.row_eval.specs.Logic.{truth_of}
 use Rattle.row_eval.specs.Outcome.{both}
 use Rattle.row_eval.specs.Row.{cell, day_in, number_in}
-use Rattle.zone_maps.specs.declared.kinds.Kind.{Kind}
-use Rattle.zone_maps.specs.Known.{cell_at_place, holds_between, is_of_kind, HasTruth, IsConstantNumber, IsKnown}
-use Rattle.zone_maps.specs.Numbers.{day_cell, kind_of, number_cell, NumbersAreTested}
+use Rattle.zone_maps.specs.Known.{cell_at_place, holds_between, HasTruth, IsConstantNumber, IsKnown}
+use Rattle.zone_maps.specs.Numbers.{day_cell, number_cell, truth_cell, NumbersAreTested}
 use Rattle.zone_maps.proofs.KnownLemmas.{cell-at}
 use Rattle.zone_maps.proofs.TestLemmas.{tests-alike}
 
@@ -79,7 +81,7 @@ module _ (dates : DatesReadBack) where
 
 -- a value of a kind with a number, or null; where it is a date, it has a month and a day of the month
 pub record HasNumber (kind : NumberKind) (number : Option ℤ) (value : CellValue) : Type 0 where
-  pub kind_is : is_of_kind (kind_of kind) value ≡ true
+  pub kind_is : is_of_kind (Number kind) value ≡ true
   pub number_is : number_in kind value ≡ number
   pub day : IfSome (day_in value) IsCalendarDay
 
@@ -93,9 +95,23 @@ day-value dates (pos n) v e =
     subst (HasNumber numbers.Date (Some (pos n))) is.1 (record { kind_is = refl; number_is = ap (λ k. Some k) number; day = (months, days) })
 day-value dates (negsuc n) v e = absurd (cc)
 
+truth-by : (z : ℤ) (v : CellValue) (zero one : Bool) → (zero ≡ true → z ≡ pos 0) → (one ≡ true → z ≡ pos 1) → cond zero (Some (boolean false)) (cond one (Some (boolean true)) None) ≡ Some v
+    → HasNumber numbers.Boolean (Some z) v
+truth-by z v true one f g e =
+    let is : boolean false ≡ v = cc in
+    subst (λ n. HasNumber numbers.Boolean (Some n) v) (sym (f refl)) (subst (HasNumber numbers.Boolean (Some (pos 0))) is (record { kind_is = refl; number_is = refl; day = tt }))
+truth-by z v false true f g e =
+    let is : boolean true ≡ v = cc in
+    subst (λ n. HasNumber numbers.Boolean (Some n) v) (sym (g refl)) (subst (HasNumber numbers.Boolean (Some (pos 1))) is (record { kind_is = refl; number_is = refl; day = tt }))
+truth-by z v false false f g e = absurd (cc)
+
+truth-value : (z : ℤ) (v : CellValue) → truth_cell z ≡ Some v → HasNumber numbers.Boolean (Some z) v
+truth-value z v e = truth-by z v (int_eq z (pos 0)) (int_eq z (pos 1)) (Decides-int_eq z (pos 0)).0 (Decides-int_eq z (pos 1)).0 e
+
 null-value : (k : NumberKind) → HasNumber k None null
 null-value numbers.Integer = record { kind_is = refl; number_is = refl; day = tt }
 null-value numbers.Decimal = record { kind_is = refl; number_is = refl; day = tt }
+null-value numbers.Boolean = record { kind_is = refl; number_is = refl; day = tt }
 null-value numbers.Date = record { kind_is = refl; number_is = refl; day = tt }
 
 -- the value that a number stands for has that number
@@ -103,6 +119,7 @@ pub have_values : DatesReadBack → (k : NumberKind) (number : Option ℤ) (valu
 have_values dates k None v e = let is : null ≡ v = cc in subst (HasNumber k None) is (null-value k)
 have_values dates numbers.Integer (Some n) v e = let is : integer n ≡ v = cc in subst (HasNumber numbers.Integer (Some n)) is (record { kind_is = refl; number_is = refl; day = tt })
 have_values dates numbers.Decimal (Some n) v e = let is : decimal n ≡ v = cc in subst (HasNumber numbers.Decimal (Some n)) is (record { kind_is = refl; number_is = refl; day = tt })
+have_values dates numbers.Boolean (Some n) v e = truth-value n v e
 have_values dates numbers.Date (Some n) v e = day-value dates n v e
 
 -- the dates of a row of a table
@@ -139,13 +156,16 @@ days-compared law o place (Some d) cells h k = truth-same _ _ (law.comparisons o
 
 -- and so are values of each kind
 kind-compared : DatesAreCompared → (k : NumberKind) (o : ComparisonOperator) (place : ℕ) (number : Option ℤ) (literal : CellValue) (cells : List CellValue) → IfSome (cell day_in cells place) IsCalendarDay → HasNumber k number literal
-    → holds o (compared int_cmp (cell (number_in k) cells place) number) ≡ holds_between (kind_of k) o (cell_at_place cells place) literal
+    → holds o (compared int_cmp (cell (number_in k) cells place) number) ≡ holds_between (Number k) o (cell_at_place cells place) literal
 kind-compared law numbers.Integer o place number literal cells days is =
     ap (λ x. holds o (compared int_cmp x number)) (cell-at (number_in numbers.Integer) refl cells place)
     ∙ ap (λ y. holds o (compared int_cmp (number_in numbers.Integer (cell_at_place cells place)) y)) (sym is.number_is)
 kind-compared law numbers.Decimal o place number literal cells days is =
     ap (λ x. holds o (compared int_cmp x number)) (cell-at (number_in numbers.Decimal) refl cells place)
     ∙ ap (λ y. holds o (compared int_cmp (number_in numbers.Decimal (cell_at_place cells place)) y)) (sym is.number_is)
+kind-compared law numbers.Boolean o place number literal cells days is =
+    ap (λ x. holds o (compared int_cmp x number)) (cell-at (number_in numbers.Boolean) refl cells place)
+    ∙ ap (λ y. holds o (compared int_cmp (number_in numbers.Boolean (cell_at_place cells place)) y)) (sym is.number_is)
 kind-compared law numbers.Date o place number literal cells days is =
     ap (λ y. holds o (compared int_cmp (cell (number_in numbers.Date) cells place) y)) (sym is.number_is)
     ∙ days-compared law o place (day_in literal) cells days is.day
@@ -154,19 +174,18 @@ kind-compared law numbers.Date o place number literal cells days is =
 pub numbers-tested : DatesReadBack → DatesAreCompared → NumbersAreTested
 numbers-tested dates law columns row k o place number value fits of_kind is =
     let has = have_values dates k number value is in
-    sym (tests-alike (kind_of k) o (cell_at_place row place) value of_kind has.kind_is) ∙ sym (kind-compared law k o place number value row (row-day dates columns row place fits) has)
+    sym (tests-alike (Number k) o (cell_at_place row place) value of_kind has.kind_is) ∙ sym (kind-compared law k o place number value row (row-day dates columns row place fits) has)
 
 numbers-known : DatesReadBack → DatesAreCompared → (k : NumberKind) (o : ComparisonOperator) (place : ℕ) (right : NumberExprOf) (number : Option ℤ) (literal : CellValue) (ranges : List RangeOf) (truth : Truth)
-    → IsConstantNumber right number → number_cell k number ≡ Some literal → HasTruth (kind_of k) o ranges place literal truth → IsKnown (compare_numbers o (typed.number_column k place) right) ranges truth
+    → IsConstantNumber right number → number_cell k number ≡ Some literal → HasTruth (Number k) o ranges place literal truth → IsKnown (compare_numbers o (typed.number_column k place) right) ranges truth
 numbers-known dates law k o place right number literal ranges truth constant is has cells within =
     ap (both (λ x y. truth_of (holds o (compared int_cmp x y))) (Some (cell (number_in k) cells place))) (constant cells)
     ∙ ap (λ b. Some (truth_of b)) (kind-compared law k o place number literal cells (row-day dates within.columns cells place within.fits) (have_values dates k number literal is))
     ∙ ap (λ t. Some t) (has cells within)
 
-pub numbers-tell : DatesReadBack → DatesAreCompared → (known : Option Truth) (kind : Kind) (k : NumberKind) (o : ComparisonOperator) (place : ℕ) (left right : NumberExprOf) (number : Option ℤ) (literal : CellValue)
-    (ranges : List RangeOf) → kind ≡ kind_of k → left ≡ typed.number_column k place → IsConstantNumber right number → number_cell k number ≡ Some literal
-    → IfSome known (HasTruth kind o ranges place literal) → IfSome known (IsKnown (compare_numbers o left right) ranges)
-numbers-tell dates law None kind k o place left right number literal ranges e f constant is has = tt
-numbers-tell dates law (Some truth) kind k o place left right number literal ranges e f constant is has =
-    subst (λ l. IsKnown (compare_numbers o l right) ranges truth) (sym f)
-    (numbers-known dates law k o place right number literal ranges truth constant is (subst (λ kind. HasTruth kind o ranges place literal truth) e has))
+pub numbers-tell : DatesReadBack → DatesAreCompared → (known : Option Truth) (k : NumberKind) (o : ComparisonOperator) (place : ℕ) (left right : NumberExprOf) (number : Option ℤ) (literal : CellValue)
+    (ranges : List RangeOf) → left ≡ typed.number_column k place → IsConstantNumber right number → number_cell k number ≡ Some literal
+    → IfSome known (HasTruth (Number k) o ranges place literal) → IfSome known (IsKnown (compare_numbers o left right) ranges)
+numbers-tell dates law None k o place left right number literal ranges f constant is has = tt
+numbers-tell dates law (Some truth) k o place left right number literal ranges f constant is has =
+    subst (λ l. IsKnown (compare_numbers o l right) ranges truth) (sym f) (numbers-known dates law k o place right number literal ranges truth constant is has)

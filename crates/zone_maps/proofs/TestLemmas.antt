@@ -6,23 +6,23 @@ use Rattle.std.specs.Ordering.{int_cmp, nat_cmp, ordering_then}
 use Rattle.std.specs.declared.cmp.Ordering.{Ordering}
 use Rattle.std.specs.declared.cmp.Ordering.TheVariants as order
 use Rattle.std.proofs.lemmas.Bool.{true≢false, false≢true}
+use Rattle.cell_types.specs.Kind.{is_of_kind}
 use Rattle.cell_types.specs.Laws.{ValuesAreOrdered}
 use Rattle.cell_types.specs.Value.{CellValue, null, integer, text, boolean, date, decimal, value_cmp, value_view}
 use Rattle.block_summary.specs.Laws.{SkipsNoRow}
 use Rattle.block_summary.specs.Ranges.{RangeOf, is_null, no_range}
 use Rattle.block_summary.specs.Tests.{admits, equals, test_passes}
-use Rattle.block_summary.specs.declared.test.Comparison.{Comparison}
-use Rattle.block_summary.specs.declared.test.Comparison.TheVariants as tests
 use Rattle.block_summary.specs.declared.test.Test.{Test}
-use Rattle.typed_trees.specs.declared.operator.ComparisonOperator.{ComparisonOperator}
-use Rattle.typed_trees.specs.declared.operator.ComparisonOperator.TheVariants as operators
+use Rattle.cell_types.specs.declared.comparison.ComparisonOperator.{ComparisonOperator}
+use Rattle.cell_types.specs.declared.kind.ColumnKind.{ColumnKind}
+use Rattle.cell_types.specs.declared.kind.ColumnKind.TheVariants.{Text, Number}
+use Rattle.cell_types.specs.declared.kind.NumberKind.TheVariants.{Integer, Decimal, Boolean, Date}
+use Rattle.cell_types.specs.declared.comparison.ComparisonOperator.TheVariants as operators
 use Rattle.row_eval.specs.declared.truth.Truth.{Truth}
 use Rattle.row_eval.specs.Comparison.{holds}
 use Rattle.row_eval.specs.Logic.{truth_of}
 use Rattle.cell_types.proofs.CaseLaws.{ordering_then_assoc}
-use Rattle.zone_maps.specs.declared.kinds.Kind.{Kind}
-use Rattle.zone_maps.specs.declared.kinds.Kind.TheVariants.{Date, Decimal, Integer, Text}
-use Rattle.zone_maps.specs.Known.{cell_at_place, comparison_of, holds_between, is_of_kind, opposite_of, cell_passes, Says}
+use Rattle.zone_maps.specs.Known.{cell_at_place, holds_between, opposite_of, cell_passes, Says}
 
 -- ---- what a range does not admit
 
@@ -31,17 +31,17 @@ pub fails-each : SkipsNoRow → (ranges : List RangeOf) (place : ℕ) (test : Te
 fails-each law ranges place test inside none cells is =
     subst (λ cs. cell_passes test (cell_at_place cs place) ≡ false) (sym is.cells_are) (law test.op ranges is.rows place (value_view test.literal) is.are_ranges inside none is.row is.within)
 
-pub no-null : (cell : CellValue) → test_passes tests.Equal cell null ≡ false → is_null cell ≡ false
+pub no-null : (cell : CellValue) → test_passes operators.Equal cell null ≡ false → is_null cell ≡ false
 unfolding value_cmp
 no-null null h = absurd (true≢false h)
 no-null cell h = refl
 
-same_of : (a b : CellValue) (r : Ordering) → value_cmp a b ≡ r → test_passes tests.NotEqual a b ≡ false → value_cmp a b ≡ order.Equal
+same_of : (a b : CellValue) (r : Ordering) → value_cmp a b ≡ r → test_passes operators.NotEqual a b ≡ false → value_cmp a b ≡ order.Equal
 same_of a b order.Less e h = absurd (cc)
 same_of a b order.Equal e h = e
 same_of a b order.Greater e h = absurd (cc)
 
-pub no-other : ValuesAreOrdered → (cell value : CellValue) → test_passes tests.NotEqual cell value ≡ false → cell ≡ value
+pub no-other : ValuesAreOrdered → (cell value : CellValue) → test_passes operators.NotEqual cell value ≡ false → cell ≡ value
 no-other law cell value h = law.same cell value (same_of cell value (value_cmp cell value) refl h)
 
 -- ---- the opposite of a test
@@ -50,44 +50,44 @@ not_not : (b : Bool) → b ≡ not (not b)
 not_not true = refl
 not_not false = refl
 
-order_opposed : (op : Comparison) (a b : CellValue) (r : Ordering) → is_null a ≡ false → is_null b ≡ false → value_cmp a b ≡ r → test_passes (opposite_of op) a b ≡ not (test_passes op a b)
-order_opposed tests.Equal a b r e f is = refl
-order_opposed tests.NotEqual a b r e f is = not_not (equals a b)
-order_opposed tests.GreaterThan a b order.Less e f is = rw (e, f, is) refl
-order_opposed tests.GreaterThan a b order.Equal e f is = rw (e, f, is) refl
-order_opposed tests.GreaterThan a b order.Greater e f is = rw (e, f, is) refl
-order_opposed tests.GreaterOrEqual a b order.Less e f is = rw (e, f, is) refl
-order_opposed tests.GreaterOrEqual a b order.Equal e f is = rw (e, f, is) refl
-order_opposed tests.GreaterOrEqual a b order.Greater e f is = rw (e, f, is) refl
-order_opposed tests.LessThan a b order.Less e f is = rw (e, f, is) refl
-order_opposed tests.LessThan a b order.Equal e f is = rw (e, f, is) refl
-order_opposed tests.LessThan a b order.Greater e f is = rw (e, f, is) refl
-order_opposed tests.LessOrEqual a b order.Less e f is = rw (e, f, is) refl
-order_opposed tests.LessOrEqual a b order.Equal e f is = rw (e, f, is) refl
-order_opposed tests.LessOrEqual a b order.Greater e f is = rw (e, f, is) refl
+order_opposed : (op : ComparisonOperator) (a b : CellValue) (r : Ordering) → is_null a ≡ false → is_null b ≡ false → value_cmp a b ≡ r → test_passes (opposite_of op) a b ≡ not (test_passes op a b)
+order_opposed operators.Equal a b r e f is = refl
+order_opposed operators.NotEqual a b r e f is = not_not (equals a b)
+order_opposed operators.GreaterThan a b order.Less e f is = rw (e, f, is) refl
+order_opposed operators.GreaterThan a b order.Equal e f is = rw (e, f, is) refl
+order_opposed operators.GreaterThan a b order.Greater e f is = rw (e, f, is) refl
+order_opposed operators.GreaterOrEqual a b order.Less e f is = rw (e, f, is) refl
+order_opposed operators.GreaterOrEqual a b order.Equal e f is = rw (e, f, is) refl
+order_opposed operators.GreaterOrEqual a b order.Greater e f is = rw (e, f, is) refl
+order_opposed operators.LessThan a b order.Less e f is = rw (e, f, is) refl
+order_opposed operators.LessThan a b order.Equal e f is = rw (e, f, is) refl
+order_opposed operators.LessThan a b order.Greater e f is = rw (e, f, is) refl
+order_opposed operators.LessOrEqual a b order.Less e f is = rw (e, f, is) refl
+order_opposed operators.LessOrEqual a b order.Equal e f is = rw (e, f, is) refl
+order_opposed operators.LessOrEqual a b order.Greater e f is = rw (e, f, is) refl
 
-pub is-opposed : (op : Comparison) (a b : CellValue) → op ≡ tests.Equal → test_passes (opposite_of op) a b ≡ not (test_passes op a b)
+pub is-opposed : (op : ComparisonOperator) (a b : CellValue) → op ≡ operators.Equal → test_passes (opposite_of op) a b ≡ not (test_passes op a b)
 is-opposed op a b e = rw e refl
 
-pub is_not-opposed : (op : Comparison) (a b : CellValue) → op ≡ tests.NotEqual → test_passes (opposite_of op) a b ≡ not (test_passes op a b)
+pub is_not-opposed : (op : ComparisonOperator) (a b : CellValue) → op ≡ operators.NotEqual → test_passes (opposite_of op) a b ≡ not (test_passes op a b)
 is_not-opposed op a b e = rw e (not_not (equals a b))
 
-pub values-opposed : (op : Comparison) (a b : CellValue) → is_null a ≡ false → is_null b ≡ false → test_passes (opposite_of op) a b ≡ not (test_passes op a b)
+pub values-opposed : (op : ComparisonOperator) (a b : CellValue) → is_null a ≡ false → is_null b ≡ false → test_passes (opposite_of op) a b ≡ not (test_passes op a b)
 values-opposed op a b e f = order_opposed op a b (value_cmp a b) e f refl
 
 -- ---- the kinds of values
 
-pub as-test : (test : Test) (op : Comparison) (literal cell : CellValue) → test.op ≡ op → value_view test.literal ≡ literal → cell_passes test cell ≡ false → test_passes op cell literal ≡ false
+pub as-test : (test : Test) (op : ComparisonOperator) (literal cell : CellValue) → test.op ≡ op → value_view test.literal ≡ literal → cell_passes test cell ≡ false → test_passes op cell literal ≡ false
 as-test test op literal cell e f h = ap (λ o. test_passes o cell literal) (sym e) ∙ ap (test_passes test.op cell) (sym f) ∙ h
 
-pub integers-around : (cell : CellValue) → test_passes tests.GreaterOrEqual cell (text []) ≡ false → is_of_kind Integer cell ≡ true
+pub integers-around : (cell : CellValue) → test_passes operators.GreaterOrEqual cell (text []) ≡ false → is_of_kind (Number Integer) cell ≡ true
 unfolding value_cmp
 integers-around null h = refl
 integers-around (integer z) h = refl
 integers-around (text []) h = absurd (true≢false h)
 integers-around cell h = absurd (true≢false h)
 
-pub texts-around : (cell : CellValue) → test_passes tests.LessThan cell (text []) ≡ false → test_passes tests.GreaterOrEqual cell (boolean false) ≡ false → is_of_kind Text cell ≡ true
+pub texts-around : (cell : CellValue) → test_passes operators.LessThan cell (text []) ≡ false → test_passes operators.GreaterOrEqual cell (boolean false) ≡ false → is_of_kind Text cell ≡ true
 unfolding value_cmp
 texts-around null h g = refl
 texts-around (text t) h g = refl
@@ -95,8 +95,17 @@ texts-around (integer z) h g = absurd (true≢false h)
 texts-around (boolean true) h g = absurd (true≢false g)
 texts-around cell h g = absurd (true≢false g)
 
-pub dates-around : (year : ℤ) (month day : ℕ) (cell : CellValue) → test_passes tests.LessOrEqual cell (boolean true) ≡ false → test_passes tests.GreaterThan cell (date year month day) ≡ false
-    → is_of_kind Date cell ≡ true
+pub booleans-around : (cell : CellValue) → test_passes operators.LessThan cell (boolean false) ≡ false → test_passes operators.GreaterThan cell (boolean true) ≡ false
+    → is_of_kind (Number Boolean) cell ≡ true
+unfolding value_cmp
+booleans-around null h g = refl
+booleans-around (boolean b) h g = refl
+booleans-around (date y m d) h g = absurd (true≢false g)
+booleans-around (decimal z) h g = absurd (true≢false g)
+booleans-around cell h g = absurd (true≢false h)
+
+pub dates-around : (year : ℤ) (month day : ℕ) (cell : CellValue) → test_passes operators.LessOrEqual cell (boolean true) ≡ false → test_passes operators.GreaterThan cell (date year month day) ≡ false
+    → is_of_kind (Number Date) cell ≡ true
 unfolding value_cmp
 dates-around year month day null h g = refl
 dates-around year month day (date y m d) h g = refl
@@ -104,7 +113,7 @@ dates-around year month day (decimal z) h g = absurd (true≢false g)
 dates-around year month day (boolean true) h g = absurd (true≢false h)
 dates-around year month day cell h g = absurd (true≢false h)
 
-pub decimals-around : (least : ℤ) (cell : CellValue) → test_passes tests.LessThan cell (decimal least) ≡ false → is_of_kind Decimal cell ≡ true
+pub decimals-around : (least : ℤ) (cell : CellValue) → test_passes operators.LessThan cell (decimal least) ≡ false → is_of_kind (Number Decimal) cell ≡ true
 unfolding value_cmp
 decimals-around least null h = refl
 decimals-around least (decimal z) h = refl
@@ -112,7 +121,7 @@ decimals-around least cell h = absurd (true≢false h)
 
 -- ---- comparisons of cells of a kind are tests
 
-null_null : (o : ComparisonOperator) → holds o (Some order.Equal) ≡ test_passes (comparison_of o) null null
+null_null : (o : ComparisonOperator) → holds o (Some order.Equal) ≡ test_passes o null null
 unfolding value_cmp
 null_null operators.Equal = refl
 null_null operators.NotEqual = refl
@@ -121,7 +130,7 @@ null_null operators.GreaterOrEqual = refl
 null_null operators.LessThan = refl
 null_null operators.LessOrEqual = refl
 
-null_value : (o : ComparisonOperator) (b : CellValue) → value_cmp null b ≡ order.Less → holds o None ≡ test_passes (comparison_of o) null b
+null_value : (o : ComparisonOperator) (b : CellValue) → value_cmp null b ≡ order.Less → holds o None ≡ test_passes o null b
 null_value operators.Equal b less = rw less refl
 null_value operators.NotEqual b less = rw less refl
 null_value operators.GreaterThan b less = refl
@@ -129,7 +138,7 @@ null_value operators.GreaterOrEqual b less = rw less refl
 null_value operators.LessThan b less = refl
 null_value operators.LessOrEqual b less = rw less refl
 
-value_null : (o : ComparisonOperator) (a : CellValue) → is_null a ≡ false → value_cmp a null ≡ order.Greater → holds o None ≡ test_passes (comparison_of o) a null
+value_null : (o : ComparisonOperator) (a : CellValue) → is_null a ≡ false → value_cmp a null ≡ order.Greater → holds o None ≡ test_passes o a null
 value_null operators.Equal a e more = rw more refl
 value_null operators.NotEqual a e more = rw more refl
 value_null operators.GreaterThan a e more = rw e refl
@@ -137,7 +146,7 @@ value_null operators.GreaterOrEqual a e more = rw (e, more) refl
 value_null operators.LessThan a e more = rw e refl
 value_null operators.LessOrEqual a e more = rw (e, more) refl
 
-two_values : (o : ComparisonOperator) (a b : CellValue) (r : Ordering) → is_null a ≡ false → is_null b ≡ false → value_cmp a b ≡ r → holds o (Some r) ≡ test_passes (comparison_of o) a b
+two_values : (o : ComparisonOperator) (a b : CellValue) (r : Ordering) → is_null a ≡ false → is_null b ≡ false → value_cmp a b ≡ r → holds o (Some r) ≡ test_passes o a b
 two_values operators.Equal a b order.Less e f is = rw is refl
 two_values operators.Equal a b order.Equal e f is = rw is refl
 two_values operators.Equal a b order.Greater e f is = rw is refl
@@ -157,15 +166,15 @@ two_values operators.LessOrEqual a b order.Less e f is = rw (e, f, is) refl
 two_values operators.LessOrEqual a b order.Equal e f is = rw (e, f, is) refl
 two_values operators.LessOrEqual a b order.Greater e f is = rw (e, f, is) refl
 
-pub tests-alike : (kind : Kind) (o : ComparisonOperator) (a b : CellValue) → is_of_kind kind a ≡ true → is_of_kind kind b ≡ true → holds_between kind o a b ≡ test_passes (comparison_of o) a b
+pub tests-alike : (kind : ColumnKind) (o : ComparisonOperator) (a b : CellValue) → is_of_kind kind a ≡ true → is_of_kind kind b ≡ true → holds_between kind o a b ≡ test_passes o a b
 unfolding value_cmp
-tests-alike Integer o null null h g = null_null o
-tests-alike Integer o null (integer y) h g = null_value o (integer y) refl
-tests-alike Integer o null _ h g = absurd (false≢true g)
-tests-alike Integer o (integer x) null h g = value_null o (integer x) refl refl
-tests-alike Integer o (integer x) (integer y) h g = two_values o (integer x) (integer y) (int_cmp x y) refl refl refl
-tests-alike Integer o (integer x) _ h g = absurd (false≢true g)
-tests-alike Integer o _ _ h g = absurd (false≢true h)
+tests-alike (Number Integer) o null null h g = null_null o
+tests-alike (Number Integer) o null (integer y) h g = null_value o (integer y) refl
+tests-alike (Number Integer) o null _ h g = absurd (false≢true g)
+tests-alike (Number Integer) o (integer x) null h g = value_null o (integer x) refl refl
+tests-alike (Number Integer) o (integer x) (integer y) h g = two_values o (integer x) (integer y) (int_cmp x y) refl refl refl
+tests-alike (Number Integer) o (integer x) _ h g = absurd (false≢true g)
+tests-alike (Number Integer) o _ _ h g = absurd (false≢true h)
 tests-alike Text o null null h g = null_null o
 tests-alike Text o null (text y) h g = null_value o (text y) refl
 tests-alike Text o null _ h g = absurd (false≢true g)
@@ -173,23 +182,33 @@ tests-alike Text o (text x) null h g = value_null o (text x) refl refl
 tests-alike Text o (text x) (text y) h g = two_values o (text x) (text y) (slice_cmp nat_cmp x y) refl refl refl
 tests-alike Text o (text x) _ h g = absurd (false≢true g)
 tests-alike Text o _ _ h g = absurd (false≢true h)
-tests-alike Date o null null h g = null_null o
-tests-alike Date o null (date y n e) h g = null_value o (date y n e) refl
-tests-alike Date o null _ h g = absurd (false≢true g)
-tests-alike Date o (date x m d) null h g = value_null o (date x m d) refl refl
-tests-alike Date o (date x m d) (date y n e) h g = two_values o (date x m d) (date y n e) (ordering_then (ordering_then (int_cmp x y) (nat_cmp m n)) (nat_cmp d e)) refl refl (ordering_then_assoc (int_cmp x y) (nat_cmp m n) (nat_cmp d e))
-tests-alike Date o (date x m d) _ h g = absurd (false≢true g)
-tests-alike Date o _ _ h g = absurd (false≢true h)
-tests-alike Decimal o null null h g = null_null o
-tests-alike Decimal o null (decimal y) h g = null_value o (decimal y) refl
-tests-alike Decimal o null _ h g = absurd (false≢true g)
-tests-alike Decimal o (decimal x) null h g = value_null o (decimal x) refl refl
-tests-alike Decimal o (decimal x) (decimal y) h g = two_values o (decimal x) (decimal y) (int_cmp x y) refl refl refl
-tests-alike Decimal o (decimal x) _ h g = absurd (false≢true g)
-tests-alike Decimal o _ _ h g = absurd (false≢true h)
+tests-alike (Number Boolean) o null null h g = null_null o
+tests-alike (Number Boolean) o null (boolean y) h g = null_value o (boolean y) refl
+tests-alike (Number Boolean) o null _ h g = absurd (false≢true g)
+tests-alike (Number Boolean) o (boolean x) null h g = value_null o (boolean x) refl refl
+tests-alike (Number Boolean) o (boolean true) (boolean true) h g = two_values o (boolean true) (boolean true) order.Equal refl refl refl
+tests-alike (Number Boolean) o (boolean true) (boolean false) h g = two_values o (boolean true) (boolean false) order.Greater refl refl refl
+tests-alike (Number Boolean) o (boolean false) (boolean true) h g = two_values o (boolean false) (boolean true) order.Less refl refl refl
+tests-alike (Number Boolean) o (boolean false) (boolean false) h g = two_values o (boolean false) (boolean false) order.Equal refl refl refl
+tests-alike (Number Boolean) o (boolean x) _ h g = absurd (false≢true g)
+tests-alike (Number Boolean) o _ _ h g = absurd (false≢true h)
+tests-alike (Number Date) o null null h g = null_null o
+tests-alike (Number Date) o null (date y n e) h g = null_value o (date y n e) refl
+tests-alike (Number Date) o null _ h g = absurd (false≢true g)
+tests-alike (Number Date) o (date x m d) null h g = value_null o (date x m d) refl refl
+tests-alike (Number Date) o (date x m d) (date y n e) h g = two_values o (date x m d) (date y n e) (ordering_then (ordering_then (int_cmp x y) (nat_cmp m n)) (nat_cmp d e)) refl refl (ordering_then_assoc (int_cmp x y) (nat_cmp m n) (nat_cmp d e))
+tests-alike (Number Date) o (date x m d) _ h g = absurd (false≢true g)
+tests-alike (Number Date) o _ _ h g = absurd (false≢true h)
+tests-alike (Number Decimal) o null null h g = null_null o
+tests-alike (Number Decimal) o null (decimal y) h g = null_value o (decimal y) refl
+tests-alike (Number Decimal) o null _ h g = absurd (false≢true g)
+tests-alike (Number Decimal) o (decimal x) null h g = value_null o (decimal x) refl refl
+tests-alike (Number Decimal) o (decimal x) (decimal y) h g = two_values o (decimal x) (decimal y) (int_cmp x y) refl refl refl
+tests-alike (Number Decimal) o (decimal x) _ h g = absurd (false≢true g)
+tests-alike (Number Decimal) o _ _ h g = absurd (false≢true h)
 
 -- ---- where a test is known
 
-pub comparison-known : (kind : Kind) (o : ComparisonOperator) (op : Comparison) (a b : CellValue) (holds : Bool) (truth : Truth) → op ≡ comparison_of o → is_of_kind kind a ≡ true → is_of_kind kind b ≡ true
-    → test_passes op a b ≡ holds → truth ≡ truth_of holds → truth_of (holds_between kind o a b) ≡ truth
-comparison-known kind o op a b holds truth e f g is t = ap truth_of (tests-alike kind o a b f g ∙ ap (λ x. test_passes x a b) (sym e) ∙ is) ∙ sym t
+pub comparison-known : (kind : ColumnKind) (o : ComparisonOperator) (a b : CellValue) (holds : Bool) (truth : Truth) → is_of_kind kind a ≡ true → is_of_kind kind b ≡ true
+    → test_passes o a b ≡ holds → truth ≡ truth_of holds → truth_of (holds_between kind o a b) ≡ truth
+comparison-known kind o a b holds truth f g is t = ap truth_of (tests-alike kind o a b f g ∙ is) ∙ sym t

@@ -3,23 +3,23 @@ use Rattle.std.specs.Prelude.{◌≡◌, ◌<◌, ℕ, ℤ, Bool, true, false, L
 use Rattle.std.specs.Cmp.Lexicographic.{slice_cmp}
 use Rattle.std.specs.Ordering.{int_cmp, nat_cmp}
 use Rattle.cell_types.specs.Column.{ColumnOf}
+use Rattle.cell_types.specs.Kind.{is_of_kind}
 use Rattle.cell_types.specs.Rows.{IsTableRow}
-use Rattle.cell_types.specs.Value.{CellValue, null, integer, text, date, decimal, value_view}
+use Rattle.cell_types.specs.Value.{CellValue, null, value_view}
 use Rattle.block_summary.specs.Ranges.{RangeOf, AreRangesOf}
 use Rattle.block_summary.specs.Tests.{test_passes}
-use Rattle.block_summary.specs.declared.test.Comparison.{Comparison}
-use Rattle.block_summary.specs.declared.test.Comparison.TheVariants as tests
 use Rattle.block_summary.specs.declared.test.Test.{Test}
-use Rattle.typed_trees.specs.declared.operator.ComparisonOperator.{ComparisonOperator}
-use Rattle.typed_trees.specs.declared.operator.ComparisonOperator.TheVariants as operators
+use Rattle.cell_types.specs.declared.comparison.ComparisonOperator.{ComparisonOperator}
+use Rattle.cell_types.specs.declared.kind.ColumnKind.{ColumnKind}
+use Rattle.cell_types.specs.declared.kind.ColumnKind.TheVariants.{Text, Number}
+use Rattle.cell_types.specs.declared.kind.NumberKind.TheVariants.{Date}
+use Rattle.cell_types.specs.declared.comparison.ComparisonOperator.TheVariants as operators
 use Rattle.typed_trees.specs.TypedTree.{NumberExprOf, TextExprOf, TruthExprOf}
 use Rattle.row_eval.specs.declared.truth.Truth.{Truth}
 use Rattle.row_eval.specs.Comparison.{compared, day_cmp, holds}
 use Rattle.row_eval.specs.Logic.{truth_of}
 use Rattle.row_eval.specs.Outcome.{number_outcome, text_outcome, truth_outcome}
-use Rattle.row_eval.specs.Row.{day_in, decimal_in, integer_in, text_in}
-use Rattle.zone_maps.specs.declared.kinds.Kind.{Kind}
-use Rattle.zone_maps.specs.declared.kinds.Kind.TheVariants.{Date, Decimal, Integer, Text}
+use Rattle.row_eval.specs.Row.{day_in, number_in, text_in}
 
 -- cells of a row of a table, among rows whose columns have these ranges
 pub record IsRowWithin (ranges : List RangeOf) (cells : List CellValue) : Type 0 where
@@ -52,22 +52,14 @@ Says ranges place test b = (cells : List CellValue) → IsRowWithin ranges cells
 abbrev pub HaveCellAlone : CellValue → List RangeOf → ℕ → Type 0
 HaveCellAlone cell ranges place = (cells : List CellValue) → IsRowWithin ranges cells → cell_at_place cells place ≡ cell
 
-abbrev pub comparison_of : ComparisonOperator → Comparison
-comparison_of operators.Equal = tests.Equal
-comparison_of operators.NotEqual = tests.NotEqual
-comparison_of operators.GreaterThan = tests.GreaterThan
-comparison_of operators.GreaterOrEqual = tests.GreaterOrEqual
-comparison_of operators.LessThan = tests.LessThan
-comparison_of operators.LessOrEqual = tests.LessOrEqual
-
 -- the comparison that holds between two values just where this one does not
-abbrev pub opposite_of : Comparison → Comparison
-opposite_of tests.Equal = tests.NotEqual
-opposite_of tests.NotEqual = tests.Equal
-opposite_of tests.GreaterThan = tests.LessOrEqual
-opposite_of tests.GreaterOrEqual = tests.LessThan
-opposite_of tests.LessThan = tests.GreaterOrEqual
-opposite_of tests.LessOrEqual = tests.GreaterThan
+abbrev pub opposite_of : ComparisonOperator → ComparisonOperator
+opposite_of operators.Equal = operators.NotEqual
+opposite_of operators.NotEqual = operators.Equal
+opposite_of operators.GreaterThan = operators.LessOrEqual
+opposite_of operators.GreaterOrEqual = operators.LessThan
+opposite_of operators.LessThan = operators.GreaterOrEqual
+opposite_of operators.LessOrEqual = operators.GreaterThan
 
 -- the opposite of a test holds where the test does not, on each such row
 abbrev pub HasOpposite : List RangeOf → ℕ → Test → Type 0
@@ -76,32 +68,22 @@ HasOpposite ranges place test = (cells : List CellValue) → IsRowWithin ranges 
 
 -- ---- kinds of values
 
--- null, or a value of the kind
-abbrev pub is_of_kind : Kind → CellValue → Bool
-is_of_kind kind null = true
-is_of_kind Integer (integer z) = true
-is_of_kind Text (text t) = true
-is_of_kind Date (date year month day) = true
-is_of_kind Decimal (decimal z) = true
-is_of_kind kind cell = false
-
 -- what passes neither of two tests is null, or a value of the kind
-abbrev pub Encloses : Kind → Test → Test → Type 0
+abbrev pub Encloses : ColumnKind → Test → Test → Type 0
 Encloses kind before behind = (cell : CellValue) → cell_passes before cell ≡ false → cell_passes behind cell ≡ false → is_of_kind kind cell ≡ true
 
 -- the cell at a place is null, or a value of the kind, on each such row
-abbrev pub AreOfKind : Kind → List RangeOf → ℕ → Type 0
+abbrev pub AreOfKind : ColumnKind → List RangeOf → ℕ → Type 0
 AreOfKind kind ranges place = (cells : List CellValue) → IsRowWithin ranges cells → is_of_kind kind (cell_at_place cells place) ≡ true
 
 -- what a comparison says of two cells of a kind
-abbrev pub holds_between : Kind → ComparisonOperator → CellValue → CellValue → Bool
-holds_between Integer o a b = holds o (compared int_cmp (integer_in a) (integer_in b))
+abbrev pub holds_between : ColumnKind → ComparisonOperator → CellValue → CellValue → Bool
 holds_between Text o a b = holds o (compared (slice_cmp nat_cmp) (text_in a) (text_in b))
-holds_between Date o a b = holds o (compared day_cmp (day_in a) (day_in b))
-holds_between Decimal o a b = holds o (compared int_cmp (decimal_in a) (decimal_in b))
+holds_between (Number Date) o a b = holds o (compared day_cmp (day_in a) (day_in b))
+holds_between (Number kind) o a b = holds o (compared int_cmp (number_in kind a) (number_in kind b))
 
 -- a comparison of the cell at a place with a literal has this truth, on each such row
-abbrev pub HasTruth : Kind → ComparisonOperator → List RangeOf → ℕ → CellValue → Truth → Type 0
+abbrev pub HasTruth : ColumnKind → ComparisonOperator → List RangeOf → ℕ → CellValue → Truth → Type 0
 HasTruth kind o ranges place literal truth =
     (cells : List CellValue) → IsRowWithin ranges cells → truth_of (holds_between kind o (cell_at_place cells place) literal) ≡ truth
 

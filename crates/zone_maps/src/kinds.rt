@@ -2,24 +2,16 @@
 
 ghost use Rattle.std.specs.Prelude.{◌≡◌};
 ghost use Rattle.cell_types.specs.Value.{text as text_cell, value_view};
+ghost use Rattle.cell_types.specs.declared.kind.ColumnKind.TheVariants.{Number};
 ghost use Rattle.zone_maps.specs.Known.{Encloses};
 
-use block_summary::{Comparison, Test};
-use cell_types::Value;
+use block_summary::Test;
+use cell_types::{ColumnKind, ComparisonOperator, NumberKind, Value};
 use jiff_core::civil::Date;
 use std::borrow::CowStr;
 
-/// The kinds of values that a column is compared with.
-#[derive(Clone, Copy)]
-pub enum Kind {
-    Integer,
-    Text,
-    Date,
-    Decimal,
-}
-
 /// Returns a test.
-fn test(op: Comparison, literal: Value<'static>) -> Test<'static>
+fn test(op: ComparisonOperator, literal: Value<'static>) -> Test<'static>
     ensures op { result.op ≡ op }
     ensures literal { result.literal ≡ literal.entry }
 {
@@ -33,25 +25,41 @@ fn text(text: &'static str) -> Value<'static>
 }
 
 /// Returns two tests: all values of the kinds before this one pass the first, and all of the kinds after it pass the second.
-pub fn tests_around(kind: Kind) -> (Test<'static>, Test<'static>)
+fn tests_around_numbers(kind: NumberKind) -> (Test<'static>, Test<'static>)
+    ensures { Encloses (Number kind) result.0 result.1 }
+{
+    match kind {
+        NumberKind::Integer => (
+            test(ComparisonOperator::LessThan, Value::Null),
+            test(ComparisonOperator::GreaterOrEqual, text("")),
+        ),
+        NumberKind::Boolean => (
+            test(ComparisonOperator::LessThan, Value::Bool(false)),
+            test(ComparisonOperator::GreaterThan, Value::Bool(true)),
+        ),
+        NumberKind::Date => (
+            test(ComparisonOperator::LessOrEqual, Value::Bool(true)),
+            test(ComparisonOperator::GreaterThan, Value::Date(Date::MAX)),
+        ),
+        NumberKind::Decimal => (
+            test(
+                ComparisonOperator::LessThan,
+                Value::Decimal(i128::from(i64::MIN)),
+            ),
+            test(ComparisonOperator::LessThan, Value::Null),
+        ),
+    }
+}
+
+/// Returns two tests: all values of the kinds before this one pass the first, and all of the kinds after it pass the second.
+pub fn tests_around(kind: ColumnKind) -> (Test<'static>, Test<'static>)
     ensures { Encloses kind result.0 result.1 }
 {
     match kind {
-        Kind::Integer => (
-            test(Comparison::LessThan, Value::Null),
-            test(Comparison::GreaterOrEqual, text("")),
-        ),
-        Kind::Text => (
-            test(Comparison::LessThan, text("")),
-            test(Comparison::GreaterOrEqual, Value::Bool(false)),
-        ),
-        Kind::Date => (
-            test(Comparison::LessOrEqual, Value::Bool(true)),
-            test(Comparison::GreaterThan, Value::Date(Date::MAX)),
-        ),
-        Kind::Decimal => (
-            test(Comparison::LessThan, Value::Decimal(i128::from(i64::MIN))),
-            test(Comparison::LessThan, Value::Null),
+        ColumnKind::Number(kind) => tests_around_numbers(kind),
+        ColumnKind::Text => (
+            test(ComparisonOperator::LessThan, text("")),
+            test(ComparisonOperator::GreaterOrEqual, Value::Bool(false)),
         ),
     }
 }

@@ -5,13 +5,12 @@ ghost use Rattle.typed_trees.specs.TypedTree.{compare_numbers, compare_texts, nu
 ghost use Rattle.zone_maps.specs.Known.{IsKnown};
 
 use crate::constants::{constant_number, constant_text};
-use crate::kinds::Kind;
-use crate::numbers::{kind_of, number_value};
+use crate::numbers::number_value;
 use crate::tests::{is_each, known_comparison};
 use block_summary::Summary;
-use cell_types::{Value, dates_read_back};
+use cell_types::{ColumnKind, ComparisonOperator, Value, dates_read_back};
 use row_eval::{Truth, dates_are_compared, truth_of};
-use typed_trees::{ComparisonOperator, NumberExpr, TextExpr, TruthExpr};
+use typed_trees::{NumberExpr, TextExpr, TruthExpr};
 
 /// Returns a column of numbers, compared with a number.
 fn known_numbers(
@@ -30,7 +29,13 @@ fn known_numbers(
     };
     let number = constant_number(right)?;
     let literal = number_value(*kind, number)?;
-    known_comparison(summary, kind_of(*kind), operator, *place, literal)
+    known_comparison(
+        summary,
+        ColumnKind::Number(*kind),
+        operator,
+        *place,
+        literal,
+    )
 }
 
 /// Returns a column of texts, compared with a literal.
@@ -47,7 +52,7 @@ fn known_texts(
         return None;
     };
     let literal = constant_text(right)?;
-    known_comparison(summary, Kind::Text, operator, *place, literal)
+    known_comparison(summary, ColumnKind::Text, operator, *place, literal)
 }
 
 /// Returns a column of truths.

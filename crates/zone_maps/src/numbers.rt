@@ -2,13 +2,11 @@
 
 ghost use Rattle.std.specs.Prelude.{◌≡◌, ◌≤◌, ◌<◌, ℤ, pos, option_map};
 ghost use Rattle.cell_types.specs.Value.{value_view};
-ghost use Rattle.zone_maps.specs.Numbers.{day_cell, kind_of as kind_of_number, number_cell, NumbersAreTested};
+ghost use Rattle.zone_maps.specs.Numbers.{day_cell, number_cell, truth_cell, NumbersAreTested};
 
-use crate::kinds::Kind;
-use cell_types::{Value, dates_read_back};
+use cell_types::{NumberKind, Value, dates_read_back};
 use jiff_core::civil::Date;
 use row_eval::dates_are_compared;
-use typed_trees::NumberKind;
 
 /// The first number of a day in the year 1, and the first in the year 10,000.
 const FIRST_YEAR: i128 = 512;
@@ -42,6 +40,19 @@ fn day_value(number: i128) -> Option<Value<'static>>
     day_at(number as u32)
 }
 
+/// Returns the boolean that a number stands for: false for 0, and true for 1.
+fn truth_value(number: i128) -> Option<Value<'static>>
+    ensures { option_map value_view result ≡ truth_cell number }
+{
+    if number == 0 {
+        Some(Value::Bool(false))
+    } else if number == 1 {
+        Some(Value::Bool(true))
+    } else {
+        None
+    }
+}
+
 /// Returns the value that a number of a kind stands for, or null.
 pub fn number_value(kind: NumberKind, number: Option<i128>) -> Option<Value<'static>>
     ensures { option_map value_view result ≡ number_cell kind number }
@@ -52,18 +63,8 @@ pub fn number_value(kind: NumberKind, number: Option<i128>) -> Option<Value<'sta
     match kind {
         NumberKind::Integer => Some(Value::Int(number)),
         NumberKind::Decimal => Some(Value::Decimal(number)),
+        NumberKind::Boolean => truth_value(number),
         NumberKind::Date => day_value(number),
-    }
-}
-
-/// Returns the kind of the values that numbers of a kind stand for.
-pub fn kind_of(kind: NumberKind) -> Kind
-    ensures { result ≡ kind_of_number kind }
-{
-    match kind {
-        NumberKind::Integer => Kind::Integer,
-        NumberKind::Decimal => Kind::Decimal,
-        NumberKind::Date => Kind::Date,
     }
 }
 

@@ -1,40 +1,26 @@
 //! What a comparison of a column with a literal says of all rows of a block, told by the range of the column.
 
 ghost use Rattle.std.specs.Prelude.{◌≡◌, false, true, List, IfSome, IsTrue};
+ghost use Rattle.cell_types.specs.Kind.{is_of_kind};
 ghost use Rattle.cell_types.specs.Value.{CellValue, value_view};
 ghost use Rattle.block_summary.specs.Ranges.{is_null};
-ghost use Rattle.zone_maps.specs.Known.{cell_at_place, comparison_of as comparison_of_operator, is_of_kind, opposite_of as opposite_of_comparison, HaveCellAlone, AreOfKind, HasOpposite, HasTruth, IsRowWithin, Says};
+ghost use Rattle.zone_maps.specs.Known.{cell_at_place, opposite_of as opposite_of_comparison, HaveCellAlone, AreOfKind, HasOpposite, HasTruth, IsRowWithin, Says};
 
-use crate::kinds::{Kind, tests_around};
-use block_summary::{Comparison, Summary, Test, admits, skips_no_row};
-use cell_types::{Value, values_are_ordered};
+use crate::kinds::tests_around;
+use block_summary::{Summary, Test, admits, skips_no_row};
+use cell_types::{ColumnKind, ComparisonOperator, Value, values_are_ordered};
 use row_eval::{Truth, truth_of};
-use typed_trees::ComparisonOperator;
 
-/// Returns an operator as a comparison of a column with a literal.
-pub fn comparison_of(operator: ComparisonOperator) -> Comparison
-    ensures { result ≡ comparison_of_operator operator }
-{
-    match operator {
-        ComparisonOperator::Equal => Comparison::Equal,
-        ComparisonOperator::NotEqual => Comparison::NotEqual,
-        ComparisonOperator::GreaterThan => Comparison::GreaterThan,
-        ComparisonOperator::GreaterOrEqual => Comparison::GreaterOrEqual,
-        ComparisonOperator::LessThan => Comparison::LessThan,
-        ComparisonOperator::LessOrEqual => Comparison::LessOrEqual,
-    }
-}
-
-fn opposite_of(comparison: Comparison) -> Comparison
+fn opposite_of(comparison: ComparisonOperator) -> ComparisonOperator
     ensures { result ≡ opposite_of_comparison comparison }
 {
     match comparison {
-        Comparison::Equal => Comparison::NotEqual,
-        Comparison::NotEqual => Comparison::Equal,
-        Comparison::GreaterThan => Comparison::LessOrEqual,
-        Comparison::GreaterOrEqual => Comparison::LessThan,
-        Comparison::LessThan => Comparison::GreaterOrEqual,
-        Comparison::LessOrEqual => Comparison::GreaterThan,
+        ComparisonOperator::Equal => ComparisonOperator::NotEqual,
+        ComparisonOperator::NotEqual => ComparisonOperator::Equal,
+        ComparisonOperator::GreaterThan => ComparisonOperator::LessOrEqual,
+        ComparisonOperator::GreaterOrEqual => ComparisonOperator::LessThan,
+        ComparisonOperator::LessThan => ComparisonOperator::GreaterOrEqual,
+        ComparisonOperator::LessOrEqual => ComparisonOperator::GreaterThan,
     }
 }
 
@@ -52,7 +38,7 @@ pub fn is_each(summary: &Summary, place: usize, value: Value<'_>) -> bool
 {
     values_are_ordered();
     let test = Test {
-        op: Comparison::NotEqual,
+        op: ComparisonOperator::NotEqual,
         literal: value,
     };
     fails_each(summary, place, &test)
@@ -64,7 +50,7 @@ fn has_no_null(summary: &Summary, place: usize) -> bool
         → is_null (cell_at_place cells place) ≡ false }
 {
     let test = Test {
-        op: Comparison::Equal,
+        op: ComparisonOperator::Equal,
         literal: Value::Null,
     };
     fails_each(summary, place, &test)
@@ -75,7 +61,7 @@ fn has_opposite(summary: &Summary, place: usize, test: &Test<'_>) -> bool
     ensures { IsTrue result → HasOpposite summary.now place test.now }
 {
     match test.op {
-        Comparison::Equal | Comparison::NotEqual => true,
+        ComparisonOperator::Equal | ComparisonOperator::NotEqual => true,
         _ => !matches!(test.literal, Value::Null) && has_no_null(summary, place),
     }
 }
@@ -108,7 +94,7 @@ fn known_test(summary: &Summary, place: usize, test: Test<'_>) -> Option<bool>
 }
 
 /// Returns true if the range of a column tells that each cell is null or of a kind.
-fn are_of_kind(summary: &Summary, place: usize, kind: Kind) -> bool
+fn are_of_kind(summary: &Summary, place: usize, kind: ColumnKind) -> bool
     ensures { IsTrue result → AreOfKind kind summary.now place }
 {
     let (before, behind) = tests_around(kind);
@@ -118,7 +104,7 @@ fn are_of_kind(summary: &Summary, place: usize, kind: Kind) -> bool
 /// Returns the truth that a comparison of a column with a literal has on each row alike, or `None` if the range does not tell.
 pub fn known_comparison(
     summary: &Summary,
-    kind: Kind,
+    kind: ColumnKind,
     operator: ComparisonOperator,
     place: usize,
     literal: Value<'_>,
@@ -131,7 +117,7 @@ pub fn known_comparison(
         return None;
     }
     let test = Test {
-        op: comparison_of(operator),
+        op: operator,
         literal,
     };
     match known_test(summary, place, test) {

@@ -8,20 +8,20 @@ pub part_sum-requires : goal.part_sum-requires
 part_sum-requires c =
     let rows = c.args.columns.now.rows in
     let column = c.in-Some.column.now in
-    let kept : IsKeptAs c.args.summed c.args.place rows column = rw c.in-Some.is at c.kept_column.ensures in
-    subst (λ ns. AreSummable ns (length c.args.numbers.now)) (part_numbers c.args.summed c.args.place rows column kept c.args.numbers.now) c.requires.fits
+    let kept : IsKeptAs c.args.kind c.args.place rows column = rw c.in-Some.is at c.kept_column.ensures in
+    subst (λ ns. AreSummable ns (length c.args.numbers.now)) (part_numbers c.args.kind c.args.place rows column kept c.args.numbers.now) c.requires.fits
 
 pub returns-then-are_all : goal.returns-then-are_all
 returns-then-are_all c =
     let rows = c.args.columns.now.rows in
     let column = c.in-Some.column.now in
-    let kept : IsKeptAs c.args.summed c.args.place rows column = rw c.in-Some.is at c.kept_column.ensures in
-    c.whole_sum.ensures c.args.summed kept.typed ∙ ap sum_of (whole_numbers c.args.summed c.args.place rows column kept)
-    ∙ ap (λ rs. sum_of (numbers_in c.args.summed c.args.place rs)) (sym (c.are_all.ensures c.if-are_all.true rows (sym c.len.ensures)))
+    let kept : IsKeptAs c.args.kind c.args.place rows column = rw c.in-Some.is at c.kept_column.ensures in
+    c.whole_sum.ensures c.args.kind kept.typed ∙ ap sum_of (whole_numbers c.args.kind c.args.place rows column kept)
+    ∙ ap (λ rs. sum_of (numbers_in c.args.kind c.args.place rs)) (sym (c.are_all.ensures c.if-are_all.true rows (sym c.len.ensures)))
 
 pub returns : goal.returns
 returns c =
     let rows = c.args.columns.now.rows in
     let column = c.in-Some.column.now in
-    let kept : IsKeptAs c.args.summed c.args.place rows column = rw c.in-Some.is at c.kept_column.ensures in
-    c.part_sum.ensures ∙ ap sum_of (sym (part_numbers c.args.summed c.args.place rows column kept c.args.numbers.now))
+    let kept : IsKeptAs c.args.kind c.args.place rows column = rw c.in-Some.is at c.kept_column.ensures in
+    c.part_sum.ensures ∙ ap sum_of (sym (part_numbers c.args.kind c.args.place rows column kept c.args.numbers.now))

@@ -1,5 +1,3 @@
-use Rattle.std.proofs.Common.{length, subst}
-use Rattle.block_eval.specs.Packed.{IsUnpackedAt}
 use Rattle.block_eval.proofs.NumberLemmas.{numbers-give}
 use Rattle.block_eval.proofs.numbers.numbers_at.Goals as goal
 
@@ -8,5 +6,4 @@ returns c =
     let columns = c.args.columns.now in
     let wanted = c.args.wanted.now in
     let made = c.in_ok-values.field-0 in
-    numbers-give columns c.args.kind c.args.place wanted made
-    (subst (λ t. IsUnpackedAt columns c.args.place t (length wanted) made) c.type_of_kind-packed_type.ensures c.in_ok-values.ensures)
+    numbers-give columns c.args.kind c.args.place wanted made c.in_ok-values.ensures

@@ -1,9 +1,9 @@
-use Rattle.std.proofs.Common.{◌≡◌, drop, length, map, ap, ◌∙◌, arith, rules, w64}
+use Rattle.std.proofs.Common.{◌≡◌, drop, length, arith, rules, w64}
 use Rattle.std.specs.Prelude.{FitsSigned}
 use Rattle.std.proofs.lemmas.Int.{to_z-of_z}
 use Rattle.std.proofs.lemmas.List.{length-map}
-use Rattle.block_summary.specs.Passing.{number_passes}
-use Rattle.block_summary.specs.Types.{number_of, numbers_of}
+use Rattle.cell_types.specs.Kind.{number_of}
+use Rattle.block_summary.specs.Types.{numbers_of}
 use Rattle.block_eval.proofs.PackedLemmas.{packed-truths}
 use Rattle.block_eval.proofs.packed.compare_packed.Goals as goal
 
@@ -13,7 +13,7 @@ returns c =
     let numbers = numbers_of c.args.column.now in
     let out = c.truth_each.new.out in
     let marks = c.mark_passing.new.out in
-    let marked = (simp to_z-of_z at c.mark_passing.ensures) ∙ ap (λ op. map (number_passes op c.args.number) numbers) c.comparison_of.ensures in
+    let marked = simp to_z-of_z at c.mark_passing.ensures in
     let size : length out ≡ c.in_ok-truths.truths.len = omega (arith, c.truth_each.auto.out, c.as_mut_slice-2.ensures.len, c.in_ok-truths.truths.ok.0) in
     let rows : length out ≡ length numbers =
     omega (arith, c.truth_each.auto.out, c.as_mut_slice-2.ensures.len, c.in_ok-truths.truths.ok.0, c.in_ok-truths.ensures.len, c.len-2.ensures, length-map c.args.column.now number_of) in

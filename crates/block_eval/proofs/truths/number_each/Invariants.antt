@@ -3,7 +3,7 @@ use Rattle.std.specs.Prelude.{option_map}
 use Rattle.row_eval.specs.declared.truth.Truth.TheVariants.{False}
 use Rattle.row_eval.specs.Logic.{option_of_truth}
 use Rattle.block_eval.specs.Columns.{number_at}
-use Rattle.block_eval.specs.Truths.{number_of_truth}
+use Rattle.cell_types.specs.Kind.{number_of_truth}
 use Rattle.block_eval.proofs.truths.number_each.Given as goal
 
 abbrev pub invariant-loop-i : goal.invariant-loop-i

@@ -1,6 +1,6 @@
 use Rattle.std.proofs.Common.{◌≡◌, map, take}
 use Rattle.std.specs.Prelude.{option_map}
-use Rattle.block_eval.specs.Truths.{number_of_truth}
+use Rattle.cell_types.specs.Kind.{number_of_truth}
 use Rattle.block_eval.proofs.truths.truth_items.Given as goal
 
 abbrev pub invariant-loop-item : goal.invariant-loop-item

@@ -1,5 +1,5 @@
 use Rattle.std.proofs.Common.{◌<◌, ◌≢◌, length, get_or, arith, ap, ◌∙◌, below_more, get_or-set_other, get_or-set_same}
-use Rattle.cell_texts.specs.Sizes.{printed_value}
+use Rattle.reply_values.specs.Printed.{printed_value}
 use Rattle.cell_texts.specs.contracts.row_sizes.add_cells.{JSON-type}
 use denote.Param.{number}
 use Rattle.cell_texts.proofs.row_sizes.add_cells.Goals as goal

@@ -1,6 +1,6 @@
 use Rattle.std.proofs.Common.{◌≡◌, ◌+◌, ◌<◌, ◌≤◌, ℕ, get_or, length}
 use Rattle.cell_types.specs.Value.{null}
-use Rattle.cell_texts.specs.Sizes.{printed_value}
+use Rattle.reply_values.specs.Printed.{printed_value}
 use Rattle.reply_values.specs.Size.{told}
 use Rattle.cell_texts.specs.contracts.row_sizes.add_cells.{JSON-type}
 use denote.Param.{number}

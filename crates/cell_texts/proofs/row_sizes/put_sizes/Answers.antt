@@ -1,7 +1,7 @@
-use Rattle.std.proofs.Common.{◌≡◌, ◌≢◌, ◌+◌, ◌<◌, ◌≤◌, ℕ, List, [], drop, get_or, length, map, take, subst, sym, ap, ◌∙◌, arith, below_more, get_or-set_other, get_or-set_same}
-use Rattle.std.proofs.lemmas.List.{length-set}
+use Rattle.std.proofs.Common.{◌≡◌, ◌≢◌, ◌+◌, ◌<◌, ◌≤◌, ℕ, List, [], drop, get_or, length, map, take, refl, subst, sym, ap, ◌∙◌, arith, below_more, get_or-set_other, get_or-set_same}
 use Rattle.cell_types.specs.Value.{CellValue, null}
-use Rattle.cell_texts.specs.Sizes.{frame_at, printed_value}
+use Rattle.cell_texts.specs.Sizes.{frame_at}
+use Rattle.reply_values.specs.Printed.{printed_value}
 use Rattle.cell_texts.proofs.SizeLemmas.{cell_of_few, every_value, few_long, few_wide, value_more}
 use Rattle.cell_texts.specs.contracts.row_sizes.put_sizes.{JSON-type}
 use denote.Param.{number}
@@ -45,20 +45,16 @@ loop-col-preserved g c = λ k h.
     value_more f values value (frame_at c.args.frame (c.args.first + k)) c.loop-col.col _ _ (omega (arith, c.loop-col-test.true, c.width-col-end.ensures, wide)) is
     (c.loop-col.invariant k (omega (arith, less))) (c.add_cells.ensures.each k (omega (arith, less)))
 
-pub row_size-requires : goal.row_size-requires
-row_size-requires g c = omega arith
+pub loop-col-2-init : goal.loop-col-2-init
+loop-col-2-init g c = λ k h. omega (arith, c.loop-i.invariant k (omega arith))
 
-pub loop-i-2-init : goal.loop-i-2-init
-loop-i-2-init g c = (λ k h. absurd (omega (arith, h)), λ k h l. c.loop-i.invariant k (omega arith))
-
-pub loop-i-2-preserved : goal.loop-i-2-preserved
-loop-i-2-preserved g c = (
-  below_more _ _
-      (λ k h. let ne : k ≢ c.loop-i-2.i = omega arith in rw get_or-set_other (c.loop-i-2.invariant.0 k h))
-      (let lt : c.loop-i-2.i < length c.loop-i-2.sizes = omega arith in
-      rw get_or-set_same (omega (arith, c.row_size.ensures, c.loop-i-2.invariant.1 c.loop-i-2.i (omega arith) lt))),
-  λ k h l. let ne : k ≢ c.loop-i-2.i = omega arith in rw get_or-set_other (c.loop-i-2.invariant.1 k (omega arith) (omega (arith, l, length-set c.loop-i-2.sizes c.loop-i-2.i c.row_size.result))),
-)
+pub loop-col-2-preserved : goal.loop-col-2-preserved
+loop-col-2-preserved g c = λ k h.
+    let values = get_or c.args.columns.now.rows (c.args.first + k) [] in
+    let less : k < length c.loop-i.sizes = omega (arith, h, c.add_far_cells.ensures.long) in
+    let wide : length values ≡ length c.args.columns.now.kinds = c.rows_are_wide.ensures (c.args.first + k) [] (omega (arith, less)) in
+    value_more (printed_value (JSON-type (number g.row.JSON))) values (get_or values c.loop-col-2.col null) (frame_at c.args.frame (c.args.first + k)) c.loop-col-2.col _ _
+    (omega (arith, c.loop-col-2-test.true, c.width-col-end-in-None.ensures, wide)) refl (c.loop-col-2.invariant k (omega (arith, less))) (c.add_far_cells.ensures.each k (omega (arith, less)))
 
 pub returns-after-loop-col-clause-sizes : goal.returns-after-loop-col-clause-sizes
 returns-after-loop-col-clause-sizes g c = λ k h.
@@ -66,5 +62,8 @@ returns-after-loop-col-clause-sizes g c = λ k h.
     let wide : length values ≡ length c.args.columns.now.kinds = c.rows_are_wide.ensures (c.args.first + k) [] (omega arith) in
     every_value (printed_value (JSON-type (number g.row.JSON))) values (frame_at c.args.frame (c.args.first + k)) c.loop-col.col _ (omega (arith, c.loop-col-test.false, c.width-col-end.ensures, wide)) (c.loop-col.invariant k h)
 
-pub returns-after-loop-i-2-clause-sizes : goal.returns-after-loop-i-2-clause-sizes
-returns-after-loop-i-2-clause-sizes g c = λ k h. c.loop-i-2.invariant.0 k (omega (arith, h, c.loop-i-2-test.false))
+pub returns-after-loop-col-2-clause-sizes : goal.returns-after-loop-col-2-clause-sizes
+returns-after-loop-col-2-clause-sizes g c = λ k h.
+    let values = get_or c.args.columns.now.rows (c.args.first + k) [] in
+    let wide : length values ≡ length c.args.columns.now.kinds = c.rows_are_wide.ensures (c.args.first + k) [] (omega arith) in
+    every_value (printed_value (JSON-type (number g.row.JSON))) values (frame_at c.args.frame (c.args.first + k)) c.loop-col-2.col _ (omega (arith, c.loop-col-2-test.false, c.width-col-end-in-None.ensures, wide)) (c.loop-col-2.invariant k h)

@@ -1,6 +1,6 @@
 use Rattle.std.proofs.Common.{[], get_or, length, arith}
 use Rattle.row_columns.specs.Cell.{cell_view}
-use Rattle.cell_texts.specs.Sizes.{printed_value}
+use Rattle.reply_values.specs.Printed.{printed_value}
 use Rattle.cell_texts.proofs.SizeLemmas.{every_value, value_lent, value_more}
 use Rattle.cell_texts.specs.contracts.row_sizes.row_size.{JSON-type}
 use denote.Param.{number}

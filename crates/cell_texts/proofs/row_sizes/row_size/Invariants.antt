@@ -1,6 +1,6 @@
 use Rattle.std.proofs.Common.{◌≡◌, ◌+◌, [], get_or, length, take}
 use Rattle.std.specs.List.{flat_map}
-use Rattle.cell_texts.specs.Sizes.{printed_value}
+use Rattle.reply_values.specs.Printed.{printed_value}
 use Rattle.reply_values.specs.Size.{told}
 use Rattle.cell_texts.specs.contracts.row_sizes.row_size.{JSON-type}
 use denote.Param.{number}

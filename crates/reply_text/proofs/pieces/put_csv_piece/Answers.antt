@@ -1,7 +1,7 @@
-use Rattle.std.proofs.Common.{◌≡◌, ◌+◌, ◌-◌, ◌<◌, get_or, length, map, string_bytes, [], sym, ap, ◌∙◌, arith}
-use Rattle.reply_text.specs.Csv.{csv_line, row_line}
+use Rattle.std.proofs.Common.{◌≡◌, get_or, length, map, string_bytes, [], sym, ap, ◌∙◌, arith}
+use Rattle.reply_text.specs.Csv.{csv_line}
 use Rattle.reply_text.specs.Pieces.{csv_pieces}
-use Rattle.reply_text.proofs.PieceLemmas.{csv_at, csv_count}
+use Rattle.reply_text.proofs.PieceLemmas.{csv_piece}
 use Rattle.reply_text.proofs.pieces.put_csv_piece.Goals as goal
 
 pub put_name_line-requires : goal.put_name_line-requires
@@ -26,37 +26,15 @@ returns-then-number-eq0-clause-end c =
     rw text c.put_name_line.ensures.end
 
 pub put_line-requires-clause-row : goal.put_line-requires-clause-row
-put_line-requires-clause-row c =
-    let rows = c.args.rows.now in
-    let row = c.args.number - 1 in
-    let inside : row < length rows.rows = omega (arith, c.if-number-eq0.false, c.requires.number, csv_count rows) in
-    let same : c.args.number ≡ row + 1 = omega (arith, c.if-number-eq0.false) in
-    let text : get_or (csv_pieces rows) c.args.number [] ≡ row_line (get_or rows.rows row []) = ap (λ n. get_or (csv_pieces rows) n []) same ∙ csv_at rows row inside in
-    inside
+put_line-requires-clause-row c = (csv_piece c.args.rows.now c.args.number (omega (arith, c.if-number-eq0.false)) c.requires.number).0
 
 pub put_line-requires-clause-room : goal.put_line-requires-clause-room
 put_line-requires-clause-room c =
-    let rows = c.args.rows.now in
-    let row = c.args.number - 1 in
-    let inside : row < length rows.rows = omega (arith, c.if-number-eq0.false, c.requires.number, csv_count rows) in
-    let same : c.args.number ≡ row + 1 = omega (arith, c.if-number-eq0.false) in
-    let text : get_or (csv_pieces rows) c.args.number [] ≡ row_line (get_or rows.rows row []) = ap (λ n. get_or (csv_pieces rows) n []) same ∙ csv_at rows row inside in
+    let text = (csv_piece c.args.rows.now c.args.number (omega (arith, c.if-number-eq0.false)) c.requires.number).1 in
     omega (arith, c.requires.room, ap length text)
 
 pub returns-clause-bytes : goal.returns-clause-bytes
-returns-clause-bytes c =
-    let rows = c.args.rows.now in
-    let row = c.args.number - 1 in
-    let inside : row < length rows.rows = omega (arith, c.if-number-eq0.false, c.requires.number, csv_count rows) in
-    let same : c.args.number ≡ row + 1 = omega (arith, c.if-number-eq0.false) in
-    let text : get_or (csv_pieces rows) c.args.number [] ≡ row_line (get_or rows.rows row []) = ap (λ n. get_or (csv_pieces rows) n []) same ∙ csv_at rows row inside in
-    rw text c.put_line.ensures.bytes
+returns-clause-bytes c = rw (csv_piece c.args.rows.now c.args.number (omega (arith, c.if-number-eq0.false)) c.requires.number).1 c.put_line.ensures.bytes
 
 pub returns-clause-end : goal.returns-clause-end
-returns-clause-end c =
-    let rows = c.args.rows.now in
-    let row = c.args.number - 1 in
-    let inside : row < length rows.rows = omega (arith, c.if-number-eq0.false, c.requires.number, csv_count rows) in
-    let same : c.args.number ≡ row + 1 = omega (arith, c.if-number-eq0.false) in
-    let text : get_or (csv_pieces rows) c.args.number [] ≡ row_line (get_or rows.rows row []) = ap (λ n. get_or (csv_pieces rows) n []) same ∙ csv_at rows row inside in
-    rw text c.put_line.ensures.end
+returns-clause-end c = rw (csv_piece c.args.rows.now c.args.number (omega (arith, c.if-number-eq0.false)) c.requires.number).1 c.put_line.ensures.end

@@ -3,7 +3,7 @@ use Rattle.std.specs.List.{join_with_byte, zip}
 use Rattle.std.proofs.lemmas.List.{get_or_default, take_all}
 use Rattle.row_columns.specs.Cell.{cell_view}
 use Rattle.reply_text.specs.Json.{comma_before, json_member}
-use Rattle.reply_values.specs.Json.{json_value}
+use Rattle.reply_values.specs.Printed.{json_value}
 use Rattle.reply_text.proofs.CsvLemmas.{piece_within}
 use Rattle.reply_text.proofs.HeadLemmas.{head_there, member_behind}
 use Rattle.reply_text.proofs.MemberLemmas.{length_zip, member_more, row_width, value_in_lent}

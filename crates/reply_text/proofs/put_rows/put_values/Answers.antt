@@ -3,7 +3,7 @@ use Rattle.std.specs.List.{join_with_byte}
 use Rattle.std.proofs.lemmas.List.{take_all}
 use Rattle.row_columns.specs.Cell.{cell_view}
 use Rattle.reply_text.specs.Json.{comma_before}
-use Rattle.reply_values.specs.Csv.{csv_value}
+use Rattle.reply_values.specs.Printed.{csv_value}
 use Rattle.reply_text.proofs.CsvLemmas.{piece_joined, piece_within}
 use Rattle.reply_text.proofs.MemberLemmas.{row_width, value_in_lent}
 use Rattle.reply_text.proofs.put_rows.put_values.Goals as goal

@@ -1,6 +1,6 @@
 use Rattle.std.proofs.Common.{◌≡◌, ◌+◌, ◌++◌, [], get_or, length, map, take}
 use Rattle.std.specs.List.{join_with_byte}
-use Rattle.reply_values.specs.Csv.{csv_value}
+use Rattle.reply_values.specs.Printed.{csv_value}
 use Rattle.reply_text.proofs.put_rows.put_values.Given as goal
 
 abbrev pub invariant-loop-col : goal.invariant-loop-col

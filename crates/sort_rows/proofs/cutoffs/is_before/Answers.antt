@@ -3,7 +3,7 @@ use Rattle.std.specs.Prelude.{not}
 use Rattle.block_summary.specs.Ranges.{is_null}
 use Rattle.cell_types.specs.Value.{null, value_view}
 use Rattle.row_eval.specs.Comparison.{holds}
-use Rattle.typed_trees.specs.declared.operator.ComparisonOperator.TheVariants.{GreaterOrEqual, GreaterThan, NotEqual}
+use Rattle.cell_types.specs.declared.comparison.ComparisonOperator.TheVariants.{GreaterOrEqual, GreaterThan, NotEqual}
 use Rattle.sort_rows.specs.Cutoffs.{is_before, order_between, IsTestOfColumn}
 use Rattle.sort_rows.proofs.ColumnTestLemmas.{before_ascending, before_descending, before_null, made_as, test_as}
 use Rattle.sort_rows.proofs.cutoffs.is_before.Goals as goal

@@ -25,7 +25,7 @@ read_part-requires c =
     let was : slice_get c.args.readers.now.items col ≡ Some reader =
     sym (c.loop-col.invariant.unread col (omega arith)) ∙ slice_get-from_read readers col reader within c.index_mut.ensures.value in
     let has = c.requires.readers.each col (column_view column) reader at was in
-    record { column = has.type; room = has.room; col = omega (arith, c.requires.width, c.loop-col-test.true) }
+    record { column = has.kind; room = has.room; col = omega (arith, c.requires.width, c.loop-col-test.true) }
 
 pub returns-in-Err-clause-fault : goal.returns-in-Err-clause-fault
 returns-in-Err-clause-fault c =

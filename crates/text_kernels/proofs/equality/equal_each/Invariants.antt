@@ -1,6 +1,6 @@
 use Rattle.std.proofs.Common.{◌≡◌, ℕ, ◌<◌, Some, get_or}
 use Rattle.cell_types.specs.Value.{null}
-use Rattle.typed_trees.specs.declared.operator.ComparisonOperator.TheVariants.{Equal}
+use Rattle.cell_types.specs.declared.comparison.ComparisonOperator.TheVariants.{Equal}
 use Rattle.row_eval.specs.declared.truth.Truth.TheVariants.{False}
 use Rattle.row_eval.specs.Row.{text_in}
 use Rattle.text_kernels.specs.declared.relation.TextRelation.TheVariants.{Comparison}

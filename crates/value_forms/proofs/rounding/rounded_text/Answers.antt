@@ -26,7 +26,7 @@ returns-clause-text c =
     c.nearest-millionths.ensures
     ∙ ap₂ (λ (whole places : List ℕ). nearest_even (digits_value 10 (whole ++ places)) (10 ^ (length places - 6)))
     (c.parts.ensures.whole ∙ ap (before_first is_point) rest) (c.parts.ensures.fraction ∙ ap (after_first is_point) rest) in
-    let made : to_z w128 (of_z w128 c.with_sign.result) ≡ signed (starts_with_minus c.args.number.now) _ =
-    (search rules) ∙ c.with_sign.ensures ∙ ap₂ signed c.is_negative.ensures number in
-    c.in_ok-push_decimal.ensures.bytes
+    let made : to_z w128 (of_z w128 c.with_sign-millionths.result) ≡ signed (starts_with_minus c.args.number.now) _ =
+    (search rules) ∙ c.with_sign-millionths.ensures ∙ ap₂ signed c.is_negative.ensures number in
+    c.in_ok-push_value.ensures.bytes
     ∙ ap₂ (λ (xs : List ℕ) z. xs ++ decimal_text z) c.new-text.ensures.items made

@@ -5,5 +5,5 @@ use Rattle.zone_maps.proofs.tests.known_comparison.Goals as goal
 
 pub returns-in-Some : goal.returns-in-Some
 returns-in-Some c = λ cells is.
-    comparison-known c.args.kind c.args.operator c.comparison_of.result (cell_at_place cells c.args.place) (value_view c.args.literal) c.in-Some.holds c.truth_of.result
-    c.comparison_of.ensures (c.are_of_kind.ensures c.if-not-are_of_kind.false cells is) c.requires (c.in-Some.ensures cells is) c.truth_of.ensures
+    comparison-known c.args.kind c.args.operator (cell_at_place cells c.args.place) (value_view c.args.literal) c.in-Some.holds c.truth_of.result
+    (c.are_of_kind.ensures c.if-not-are_of_kind.false cells is) c.requires (c.in-Some.ensures cells is) c.truth_of.ensures

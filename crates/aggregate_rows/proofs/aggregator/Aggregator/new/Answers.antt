@@ -1,13 +1,9 @@
-use Rattle.std.proofs.Common.{[], refl, sym, subst}
-use Rattle.std.specs.Prelude.{option_map}
-use Rattle.aggregate_rows.specs.Gathered.{HasGroups}
+use Rattle.std.proofs.Common.{refl}
 use Rattle.aggregate_rows.proofs.aggregator.Aggregator.new.Goals as goal
 
 pub returns-in_ok-from_slice-in-Some : goal.returns-in_ok-from_slice-in-Some
 returns-in_ok-from_slice-in-Some c = record {
   places_are = rw (c.in-Some.is, c.in_ok-from_slice-in-Some.ensures.items) refl;
   aggregates_are = c.in_ok-aggregates.ensures;
-  groups_are =
-      subst (λ ps. HasGroups (option_map (λ p. p.now) ps) c.in_ok-aggregates.aggregates.items c.none.result []) (sym c.in-Some.is)
-      (c.none.ensures.groups c.in-Some.places.now c.in_ok-aggregates.aggregates.items);
+  groups_are = rw c.in-Some.is (c.none.ensures.groups c.in-Some.places.now _);
 }

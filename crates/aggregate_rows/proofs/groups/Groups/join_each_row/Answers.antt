@@ -37,9 +37,12 @@ join_each-requires-clause-joins c =
     let key : map value_view c.as_slice.result.now ≡ values_at c.args.grouping.places.now row = ap (map value_view) c.as_slice.ensures.value ∙ (rw c.at-number.ensures at c.in_ok-read_key.ensures) in
     let may = c.requires.joins in
     let some = may.rows ++ numbered (take i numbers) rows in
-    rw (c.one-row.ensures, c.at-number.ensures) (may_join c.values_are_ordered.ensures.equal c.args.grouping.places.now aggregates some row c.loop-i.self c.group_of.new.self (c.loop-i.invariant may.rows may.has) c.in_ok-group.group _ key
-    c.in_ok-group.ensures.group c.in_ok-group.ensures.more c.index_mut.result.now c.index_mut.ensures.value (length c.args.columns.now.kinds)
-    (one_row_fits (length c.args.columns.now.kinds) may.rows rows numbers i aggregates (omega (arith, c.loop-i-test.true, c.len-i-end.ensures)) may.fits))
+    rw (c.one-row.ensures, c.at-number.ensures) (
+      aggregates,
+      may_join c.values_are_ordered.ensures.equal c.args.grouping.places.now aggregates some row c.loop-i.self c.group_of.new.self (c.loop-i.invariant may.rows may.has) c.in_ok-group.group _ key
+          c.in_ok-group.ensures.group c.in_ok-group.ensures.more c.index_mut.result.now c.index_mut.ensures.value (length c.args.columns.now.kinds)
+          (one_row_fits (length c.args.columns.now.kinds) may.rows rows numbers i aggregates (omega (arith, c.loop-i-test.true, c.len-i-end.ensures)) may.fits),
+    )
 
 pub loop-i-preserved : goal.loop-i-preserved
 loop-i-preserved c = λ before has.
@@ -53,4 +56,4 @@ loop-i-preserved c = λ before has.
     row_joined c.values_are_ordered.ensures.equal places c.args.grouping.aggregates.now some row c.loop-i.self c.group_of.new.self (c.loop-i.invariant before has) c.in_ok-group.group _ key
     c.in_ok-group.ensures.group c.in_ok-group.ensures.more c.index_mut.result.now c.index_mut.ensures.value _ c.join_each.new.accumulators _
     (one_row_more before rows numbers i (omega (arith, c.loop-i-test.true, c.len-i-end.ensures))) (c.rows_are_in_groups.ensures.distinct places (some ++ row ∷ []))
-    (rw (c.one-row.ensures, c.at-number.ensures) at c.in_ok-join_each.ensures) refl refl
+    ((rw (c.one-row.ensures, c.at-number.ensures) at c.in_ok-join_each.ensures) c.args.grouping.aggregates.now) refl refl

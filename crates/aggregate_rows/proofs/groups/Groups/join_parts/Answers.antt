@@ -12,14 +12,15 @@ use Rattle.aggregate_rows.proofs.groups.Groups.join_parts.Goals as goal
 
 pub index_mut-requires : goal.index_mut-requires
 index_mut-requires c =
-    let may = c.requires.joins in
+    let aggregates = c.requires.joins.0 in
+    let may = c.requires.joins.1 in
     let at = rw (← c.loop-part.invariant.turn) at (YieldsList-turn (YieldsList-from_vec {s = c.into_iter-part-iterator.result} c.args.parts.items (search rules) (search rules)) c.loop-part.yielded
     c.loop-part.part-iterator c.loop-part.yielded_by c.next.result c.next.new.self c.in-Some.part c.in-Some.is c.next.ensures.steps) in
     omega (
       arith,
       c.loop-part.self.accumulators.ok.0,
-      group_there c.args.aggregates.now c.args.columns.now.rows c.args.parts.items may.keys may.before may.more c.loop-part.self.accumulators.items c.loop-part.group c.in-Some.part at.0 at.1 may.parts_are
-          (c.loop-part.invariant.joined may.keys may.before may.more may.have may.parts_are),
+      group_there aggregates c.args.columns.now.rows c.args.parts.items may.keys may.before may.more c.loop-part.self.accumulators.items c.loop-part.group c.in-Some.part at.0 at.1 may.parts_are
+          (c.loop-part.invariant.joined aggregates may.keys may.before may.more may.have may.parts_are),
     )
 
 pub join_each-requires-clause-within : goal.join_each-requires-clause-within
@@ -32,11 +33,15 @@ join_each-requires-clause-within c =
 
 pub join_each-requires-clause-joins : goal.join_each-requires-clause-joins
 join_each-requires-clause-joins c =
-    let may = c.requires.joins in
+    let aggregates = c.requires.joins.0 in
+    let may = c.requires.joins.1 in
     let at = rw (← c.loop-part.invariant.turn) at (YieldsList-turn (YieldsList-from_vec {s = c.into_iter-part-iterator.result} c.args.parts.items (search rules) (search rules)) c.loop-part.yielded
     c.loop-part.part-iterator c.loop-part.yielded_by c.next.result c.next.new.self c.in-Some.part c.in-Some.is c.next.ensures.steps) in
-    rw c.few-numbers.ensures (part_may_join c.args.aggregates.now c.args.columns.now.rows c.args.parts.items may.keys may.before may.more c.loop-part.self.accumulators.items c.loop-part.group c.in-Some.part at.0 at.1 may.parts_are
-    (c.loop-part.invariant.joined may.keys may.before may.more may.have may.parts_are) c.index_mut.result.now (length c.args.columns.now.kinds) c.index_mut.ensures.value may.fits)
+    rw c.few-numbers.ensures (
+      aggregates,
+      part_may_join aggregates c.args.columns.now.rows c.args.parts.items may.keys may.before may.more c.loop-part.self.accumulators.items c.loop-part.group c.in-Some.part at.0 at.1 may.parts_are
+          (c.loop-part.invariant.joined aggregates may.keys may.before may.more may.have may.parts_are) c.index_mut.result.now (length c.args.columns.now.kinds) c.index_mut.ensures.value may.fits,
+    )
 
 pub loop-part-preserved : goal.loop-part-preserved
 loop-part-preserved c =
@@ -45,11 +50,11 @@ loop-part-preserved c =
     record {
       turn = omega (arith, c.loop-part.invariant.turn, length-append c.loop-part.yielded (c.in-Some.part ∷ []));
       keys = c.loop-part.invariant.keys;
-      joined = λ keys before more have parts_are.
-          part_joined c.args.aggregates.now c.args.columns.now.rows c.args.parts.items keys before more c.loop-part.self.accumulators.items c.loop-part.group c.in-Some.part at.0 at.1 parts_are
-          (c.loop-part.invariant.joined keys before more have parts_are) c.index_mut.result.now c.join_each.new.accumulators c.index_mut.ensures.value
-          (subst (λ (ns : List ℕ). TalliesEach c.args.aggregates.now c.index_mut.result.now.items c.join_each.new.accumulators.items (numbered ns c.args.columns.now.rows)) c.few-numbers.ensures
-          c.in_ok-join_each.ensures);
+      joined = λ aggregates keys before more have parts_are.
+          part_joined aggregates c.args.columns.now.rows c.args.parts.items keys before more c.loop-part.self.accumulators.items c.loop-part.group c.in-Some.part at.0 at.1 parts_are
+          (c.loop-part.invariant.joined aggregates keys before more have parts_are) c.index_mut.result.now c.join_each.new.accumulators c.index_mut.ensures.value
+          (subst (λ (ns : List ℕ). TalliesEach aggregates c.index_mut.result.now.items c.join_each.new.accumulators.items (numbered ns c.args.columns.now.rows)) c.few-numbers.ensures
+          (c.in_ok-join_each.ensures aggregates));
     }
 
 pub loop-part-preserved-in_ok-join_each : goal.loop-part-preserved-in_ok-join_each
@@ -59,16 +64,15 @@ loop-part-preserved-in_ok-join_each c =
     record {
       turn = omega (arith, c.loop-part.invariant.turn, length-append c.loop-part.yielded (c.in-Some.part ∷ []));
       keys = c.loop-part.invariant.keys;
-      joined = λ keys before more have parts_are.
-          part_joined c.args.aggregates.now c.args.columns.now.rows c.args.parts.items keys before more c.loop-part.self.accumulators.items c.loop-part.group c.in-Some.part at.0 at.1 parts_are
-          (c.loop-part.invariant.joined keys before more have parts_are) c.index_mut.result.now c.join_each.new.accumulators c.index_mut.ensures.value
-          (subst (λ (ns : List ℕ). TalliesEach c.args.aggregates.now c.index_mut.result.now.items c.join_each.new.accumulators.items (numbered ns c.args.columns.now.rows)) c.few-numbers.ensures
-          c.in_ok-join_each.ensures);
+      joined = λ aggregates keys before more have parts_are.
+          part_joined aggregates c.args.columns.now.rows c.args.parts.items keys before more c.loop-part.self.accumulators.items c.loop-part.group c.in-Some.part at.0 at.1 parts_are
+          (c.loop-part.invariant.joined aggregates keys before more have parts_are) c.index_mut.result.now c.join_each.new.accumulators c.index_mut.ensures.value
+          (subst (λ (ns : List ℕ). TalliesEach aggregates c.index_mut.result.now.items c.join_each.new.accumulators.items (numbered ns c.args.columns.now.rows)) c.few-numbers.ensures
+          (c.in_ok-join_each.ensures aggregates));
     }
 
 pub returns-clause-joins : goal.returns-clause-joins
-returns-clause-joins c = λ keys before more have parts_are.
-    let aggregates = c.args.aggregates.now in
+returns-clause-joins c = λ aggregates keys before more have parts_are.
     let parts = zip_long (λ key part. numbered part.items c.args.columns.now.rows ≡ more key) keys c.args.parts.items parts_are in
     all_by (λ key ts. AreAccumulators aggregates (before key ++ more key) ts.items) (λ key ts. AreAccumulators aggregates (before key) ts.items) keys c.loop-part.self.accumulators.items c.loop-part.group
-    (c.loop-part.invariant.joined keys before more have parts_are) (omega (arith, c.loop-part.invariant.turn, (YieldsList-end (YieldsList-from_vec {s = c.into_iter-part-iterator.result} c.args.parts.items (search rules) (search rules)) c.loop-part.yielded c.loop-part.part-iterator c.loop-part.yielded_by c.next.result c.next.new.self c.in-None.is c.next.ensures.steps).1, parts))
+    (c.loop-part.invariant.joined aggregates keys before more have parts_are) (omega (arith, c.loop-part.invariant.turn, (YieldsList-end (YieldsList-from_vec {s = c.into_iter-part-iterator.result} c.args.parts.items (search rules) (search rules)) c.loop-part.yielded c.loop-part.part-iterator c.loop-part.yielded_by c.next.result c.next.new.self c.in-None.is c.next.ensures.steps).1, parts))

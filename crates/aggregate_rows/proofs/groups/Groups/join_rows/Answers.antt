@@ -56,9 +56,11 @@ join_parts-requires-clause-joins c =
     let may = c.requires.joins in
     let begun : AreBegun places aggregates mid may.rows (numbered numbers rows) = (rw c.in-Some.is at c.in_ok-groups.ensures.begun) may.rows may.has in
     let from : ArePartsFrom 0 numbers found parts = rw c.deref.ensures.value at c.in_ok-parts.ensures.parts in
-    let long : length parts ≡ length mid.keys.keys = c.in_ok-parts.ensures.long ∙ c.len.ensures in
-    may_join_parts c.values_are_ordered.ensures.equal places aggregates may.rows rows numbers mid begun
-    (c.rows_are_in_groups.ensures.distinct places (may.rows ++ numbered numbers rows)) found are parts long from (length c.args.columns.now.kinds) may.fits
+    let long : length parts ≡ length mid.keys.keys = c.in_ok-parts.ensures.long ∙ c.len.ensures in (
+      aggregates,
+      may_join_parts c.values_are_ordered.ensures.equal places aggregates may.rows rows numbers mid begun
+          (c.rows_are_in_groups.ensures.distinct places (may.rows ++ numbered numbers rows)) found are parts long from (length c.args.columns.now.kinds) may.fits,
+    )
 
 pub returns-in-Some : goal.returns-in-Some
 returns-in-Some c =
@@ -75,7 +77,7 @@ returns-in-Some c =
     let long : length parts ≡ length mid.keys.keys = c.in_ok-parts.ensures.long ∙ c.len.ensures in
     both_ok c.join_parts.result (new.keys ≡ mid.keys) _ (JoinsGroups (Some places) aggregates c.args.self.now new (numbered numbers rows))
     (λ same joins before has. parts_joined c.values_are_ordered.ensures.equal places aggregates before rows numbers mid ((rw c.in-Some.is at c.in_ok-groups.ensures.begun) before has)
-    (c.rows_are_in_groups.ensures.distinct places (before ++ numbered numbers rows)) found are parts long from new (ap (λ keys. keys.keys) same) joins)
+    (c.rows_are_in_groups.ensures.distinct places (before ++ numbered numbers rows)) found are parts long from new (ap (λ keys. keys.keys) same) (joins aggregates))
     c.join_parts.ensures.keys c.join_parts.ensures.joins
 
 pub join_each_row-requires-clause-joins : goal.join_each_row-requires-clause-joins

@@ -9,5 +9,5 @@ use Rattle.block_summary.proofs.packed.PackedColumn.mark_passing.Goals as goal
 pub returns : goal.returns
 returns c =
     let fits : FitsSigned w64 c.args.literal = search rules in
-    let same = sym (numbers-cells c.self.inside.packed_type c.self.inside.numbers c.self.invariant) ∙ ap numbers_of c.self.view_is in
+    let same = sym (numbers-cells c.numbers_stand_for_cells.ensures c.self.inside.kind c.self.inside.numbers c.self.invariant) ∙ ap numbers_of c.self.view_is in
     (simp to_z-of_z at c.mark_passing.ensures) ∙ ap (map (number_passes c.args.op c.args.literal)) same

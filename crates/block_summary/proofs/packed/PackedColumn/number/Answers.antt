@@ -5,5 +5,5 @@ use Rattle.block_summary.proofs.packed.PackedColumn.number.Goals as goal
 
 pub returns : goal.returns
 returns c =
-    let same = sym (numbers-cells c.self.inside.packed_type c.self.inside.numbers c.self.invariant) ∙ ap numbers_of c.self.view_is in
+    let same = sym (numbers-cells c.numbers_stand_for_cells.ensures c.self.inside.kind c.self.inside.numbers c.self.invariant) ∙ ap numbers_of c.self.view_is in
     c.get.ensures ∙ ap (λ xs. get_or xs c.args.row None) same

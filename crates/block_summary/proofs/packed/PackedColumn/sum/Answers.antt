@@ -10,5 +10,5 @@ use Rattle.block_summary.proofs.packed.PackedColumn.sum.Goals as goal
 pub returns : goal.returns
 returns c =
     let fits : FitsSigned w128 c.sum.result = search rules in
-    let same = sym (numbers-cells c.self.inside.packed_type c.self.inside.numbers c.self.invariant) ∙ ap numbers_of c.self.view_is in
+    let same = sym (numbers-cells c.numbers_stand_for_cells.ensures c.self.inside.kind c.self.inside.numbers c.self.invariant) ∙ ap numbers_of c.self.view_is in
     simp to_z-of_z (c.sum.ensures ∙ ap number_sum same)

@@ -4,4 +4,4 @@ use Rattle.block_summary.proofs.RangeLemmas.{cells-null}
 use Rattle.block_summary.proofs.packed.PackedColumn.unpack_nulls.Goals as goal
 
 pub returns : goal.returns
-returns c = c.unpack_nulls.ensures ∙ cells-null c.self.inside.packed_type c.self.inside.numbers ∙ ap (map is_null) c.self.view_is
+returns c = c.unpack_nulls.ensures ∙ cells-null c.numbers_stand_for_cells.ensures c.self.inside.kind c.self.inside.numbers ∙ ap (map is_null) c.self.view_is

@@ -1,5 +1,6 @@
-use Rattle.std.proofs.Common.{◌≡◌, ◌+◌, Some, length, length-append, take, arith, sym, subst, ap, ◌∙◌}
+use Rattle.std.proofs.Common.{◌≡◌, ◌+◌, length, length-append, take, arith, sym, subst, ap, ◌∙◌}
 use Rattle.std.proofs.lemmas.List.{length-take, take_all}
+use Rattle.cell_types.specs.declared.kind.ColumnKind.TheVariants.{Number}
 use Rattle.cell_types.specs.Column.{column_view}
 use Rattle.csv_fields.specs.Raw.{raw_view}
 use Rattle.csv_fields.specs.Values.{value_in, value_or_null}
@@ -20,7 +21,7 @@ read-requires-clause-room c =
 
 pub read-requires-clause-column : goal.read-requires-clause-column
 read-requires-clause-column c =
-    c.requires.column ∙ ap Some (sym (ap (λ (r : NumberReaderOf). r.packed_type) c.loop-row.invariant.cells))
+    c.requires.column ∙ ap Number (sym (ap (λ (r : NumberReaderOf). r.kind) c.loop-row.invariant.cells))
 
 pub returns-in-Err-clause-fault : goal.returns-in-Err-clause-fault
 returns-in-Err-clause-fault c =
@@ -36,7 +37,7 @@ loop-row-preserved c =
     let more = cells_more column c.args.col c.loop-row.row part raw c.field.ensures in
     record {
       cells = c.in-Ok.ensures.cells ∙ ap (λ r. numbers_with r value) c.loop-row.invariant.cells
-          ∙ ap (λ cells. record { packed_type = old.packed_type; rows = old.rows; cells = cells })
+          ∙ ap (λ cells. record { kind = old.kind; rows = old.rows; cells = cells })
           (one_more old.cells (part_cells column c.args.col (take c.loop-row.row part)) (part_cells column c.args.col (take (c.loop-row.row + 1) part)) value more);
       values = values_more column c.args.col c.loop-row.row part raw c.field.ensures c.in-Ok.ensures.value c.loop-row.invariant.values;
     }

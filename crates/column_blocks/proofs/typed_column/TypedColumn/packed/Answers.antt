@@ -1,7 +1,6 @@
-use Rattle.std.proofs.Common.{◌*◌, ◌<◌, length, option_map, ap, ◌∙◌, arith}
+use Rattle.std.proofs.Common.{◌*◌, ◌<◌, length, ap, ◌∙◌, arith}
 use Rattle.block_summary.specs.declared.block.TheConstants.{BLOCK_ROWS}
-use Rattle.block_summary.specs.declared.number.PackedType.{PackedType}
-use Rattle.column_blocks.specs.TypedColumn.{ColumnCells, block_in, cells_in, cells_of_each}
+use Rattle.column_blocks.specs.TypedColumn.{ColumnCells, block_in, cells_in, cells_of_each, cells_of_numbers}
 use Rattle.column_blocks.proofs.BlockLemmas.{block_is, block_there}
 use Rattle.column_blocks.proofs.typed_column.TypedColumn.packed.Goals as goal
 
@@ -18,6 +17,6 @@ returns c =
     let blocks = c.self.inside.blocks.items in
     let size = ap (λ (column : ColumnCells). length column.cells) c.self.view_is in
     let within : c.args.number * BLOCK_ROWS < length (cells_in (cells_of_each blocks)) = omega (arith, size, c.requires) in
-    let block = block_is BLOCK_ROWS c.self.inside.packed_type blocks c.args.number c.index.result.now c.self.invariant.0 c.self.invariant.1 (omega arith) within c.index.ensures
+    let block = block_is BLOCK_ROWS c.self.inside.kind blocks c.args.number c.index.result.now c.self.invariant.0 c.self.invariant.1 (omega arith) within c.index.ensures
     ∙ ap (λ (column : ColumnCells). block_in column c.args.number) c.self.view_is in
-    c.packed.ensures ∙ ap (λ (b : ColumnCells). option_map (λ (type : PackedType). b.cells) b.packed_type) block
+    c.packed.ensures ∙ ap (λ (b : ColumnCells). cells_of_numbers b.kind b.cells) block

@@ -18,6 +18,6 @@ returns c =
     let blocks = c.self.inside.blocks.items in
     let size = ap (λ (column : ColumnCells). length column.cells) c.self.view_is in
     let within : c.args.number * BLOCK_ROWS < length (cells_in (cells_of_each blocks)) = omega (arith, size, c.requires) in
-    let block = block_is BLOCK_ROWS c.self.inside.packed_type blocks c.args.number c.index.result.now c.self.invariant.0 c.self.invariant.1 (omega arith) within c.index.ensures
+    let block = block_is BLOCK_ROWS c.self.inside.kind blocks c.args.number c.index.result.now c.self.invariant.0 c.self.invariant.1 (omega arith) within c.index.ensures
     ∙ ap (λ (column : ColumnCells). block_in column c.args.number) c.self.view_is in
     subst (λ (b : ColumnCells). IfOk c.shared.result (λ shared. shared ≡ b)) block c.shared.ensures

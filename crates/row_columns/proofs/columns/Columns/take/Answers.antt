@@ -3,9 +3,10 @@ use Rattle.std.specs.Prelude.{OnOk}
 use Rattle.std.specs.List.{All}
 use Rattle.std.proofs.lemmas.List.{length-map}
 use Rattle.cell_types.specs.Column.{column_view, ColumnOf}
+use Rattle.cell_types.specs.Kind.{kind_of}
 use Rattle.cell_types.specs.Value.{CellValue}
 use Rattle.table_store.specs.Schema.{SchemaOf}
-use Rattle.row_columns.specs.Kinds.{kind_of_datatype, kinds_of}
+use Rattle.row_columns.specs.Kinds.{kinds_of, of_kind}
 use Rattle.row_columns.specs.Numbers.{numbers_from}
 use Rattle.row_columns.specs.Picked.{kinds_at, numbered, values_at}
 use Rattle.row_columns.proofs.NumberedLaws.{all_within, kinds_whole}
@@ -18,7 +19,7 @@ take_places-requires-clause-kinds c =
     let count : c.len.result ≡ length columns =
     omega (arith, c.len.ensures, length-map c.schema.result.now.columns.items column_view, ap (λ (s : SchemaOf). length s.columns) c.schema.ensures, c.schema.result.now.columns.ok.0) in
     let places : c.as_slice.result.now ≡ numbers_from 0 (length (kinds_of columns)) =
-    c.as_slice.ensures.value ∙ c.in-Ok.ensures ∙ c.all.ensures ∙ ap (numbers_from 0) (count ∙ sym (length-map columns (λ (column : ColumnOf). kind_of_datatype column.datatype))) in
+    c.as_slice.ensures.value ∙ c.in-Ok.ensures ∙ c.all.ensures ∙ ap (numbers_from 0) (count ∙ sym (length-map columns (λ (column : ColumnOf). of_kind (kind_of column.datatype)))) in
     c.requires.kinds ∙ sym (kinds_whole (kinds_of columns)) ∙ ap (λ (ps : List ℕ). kinds_at ps (kinds_of columns)) (sym places)
 
 pub take_places-requires-clause-places : goal.take_places-requires-clause-places

@@ -15,7 +15,7 @@ returns c =
     let texts = c.in_ok-texts.texts in
     let codes = c.in_ok-codes.codes.now in
     let within : col < length columns = omega (arith, c.requires, ap (λ (cs : List ColumnCells). length cs) c.self.view_is) in
-    let some : cells_of_texts column.packed_type column.cells ≡ Some texts = sym c.texts.ensures ∙ c.in_ok-texts.was in
+    let some : cells_of_texts column.kind column.cells ≡ Some texts = sym c.texts.ensures ∙ c.in_ok-texts.was in
     let are : AreCodes codes texts = c.in_ok-codes.ensures in
     subst (λ (cs : List ColumnCells). HaveCodesAt c.as_slice.result.now col (piece_row cs)) c.self.view_is
     (subst (λ ks. HaveCodesAt ks col (piece_row columns)) (sym c.as_slice.ensures.value) (all_coded columns col column texts codes within c.index.ensures some are))

@@ -1,3 +1,4 @@
+use Rattle.row_columns.specs.Kinds.{of_kind}
 use Rattle.std.proofs.Common.{ap, ◌≡◌, ◌+◌, ◌-◌, ◌*◌, ◌<◌, ℕ, get_or, length, vec_len, map, sym, subst, ◌∙◌, arith}
 use Rattle.std.proofs.lemmas.List.{length-map}
 use Rattle.block_summary.specs.Ranges.{column_of}
@@ -5,7 +6,7 @@ use Rattle.block_summary.specs.declared.block.TheConstants.{BLOCK_ROWS}
 use Rattle.row_columns.specs.declared.store.Store.{Store}
 use Rattle.row_columns.specs.declared.store.Store.TheVariants.{Blocks}
 use Rattle.row_columns.specs.Numbers.{numbers_from}
-use Rattle.row_columns.specs.Store.{kind_of_type, stored_kinds, stored_row, IsStoredWide}
+use Rattle.row_columns.specs.Store.{stored_kinds, stored_row, IsStoredWide}
 use Rattle.row_selection.proofs.NumberLemmas.{get-from, length-from}
 use Rattle.row_columns.proofs.PackedLemmas.{packed_rows}
 use Rattle.row_columns.proofs.StoreLemmas.{piece_wide, some_there}
@@ -13,17 +14,17 @@ use Rattle.row_columns.proofs.store.Store.packed.Goals as goal
 
 pub packed-requires : goal.packed-requires
 packed-requires c =
-    let types = c.in-Blocks.field-0 in
+    let kinds = c.in-Blocks.field-0 in
     let pieces = c.in-Blocks.pieces in
-    let wide : IsStoredWide (Blocks types pieces) = subst IsStoredWide c.in-Blocks.is c.requires.wide in
-    let within : c.args.col < length (stored_kinds (Blocks types pieces)) = subst (λ (s : Store). c.args.col < length (stored_kinds s)) c.in-Blocks.is c.requires.col in
+    let wide : IsStoredWide (Blocks kinds pieces) = subst IsStoredWide c.in-Blocks.is c.requires.wide in
+    let within : c.args.col < length (stored_kinds (Blocks kinds pieces)) = subst (λ (s : Store). c.args.col < length (stored_kinds s)) c.in-Blocks.is c.requires.col in
     let last = c.len-last.result - 1 in
     let inside : last < length pieces.items = omega (arith, c.len-last.ensures, some_there (vec_len pieces) (sym c.is_empty.ensures ∙ c.if-is_empty.false), pieces.ok.0) in
-    omega (arith, within, length-map types.items kind_of_type, piece_wide pieces.items (length types.items) last c.index.result.now wide inside c.index.ensures)
+    omega (arith, within, length-map kinds.items of_kind, piece_wide pieces.items (length kinds.items) last c.index.result.now wide inside c.index.ensures)
 
 pub returns : goal.returns
 returns c =
-    let types = c.in-Blocks.field-0 in
+    let kinds = c.in-Blocks.field-0 in
     let pieces = c.in-Blocks.pieces in
     let first = c.args.run.0 in
     let count = c.args.run.1 in

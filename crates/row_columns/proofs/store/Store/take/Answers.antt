@@ -5,10 +5,10 @@ use Rattle.std.proofs.lemmas.List.{length-map, length-replicate}
 use Rattle.block_summary.specs.declared.block.TheConstants.{BLOCK_ROWS}
 use Rattle.cell_types.specs.Value.{CellValue}
 use Rattle.row_columns.specs.declared.store.Store.TheVariants.{Blocks, Values}
-use Rattle.row_columns.specs.Kinds.{any}
+use Rattle.row_columns.specs.Kinds.{any, of_kind}
 use Rattle.row_columns.specs.Numbers.{numbers_from}
 use Rattle.row_columns.specs.Picked.{numbered, values_at}
-use Rattle.row_columns.specs.Store.{kind_of_type, value_rows, IsStoredWide}
+use Rattle.row_columns.specs.Store.{value_rows, IsStoredWide}
 use Rattle.row_columns.proofs.NumberLemmas.{from-start}
 use Rattle.row_columns.proofs.RowLemmas.{blocks_taken, values_taken}
 use Rattle.row_columns.proofs.StoreLemmas.{rows_wide}
@@ -22,8 +22,8 @@ returns-in_ok-push-in-Blocks-clause-taken c =
     let rows = c.args.block.now.rows in
     let piece = c.in_ok-of_places-in-Blocks.field-0 in
     let wide : IsStoredWide (Blocks arm.field-0 arm.pieces) = rw arm.is at c.requires.wide in
-    let width : length (map kind_of_type arm.field-0.items) ≡ length places = rw arm.is at c.requires.width in
-    let long : length piece ≡ length arm.field-0.items = c.in_ok-of_places-in-Blocks.ensures.wide ∙ sym width ∙ length-map arm.field-0.items kind_of_type in
+    let width : length (map of_kind arm.field-0.items) ≡ length places = rw arm.is at c.requires.width in
+    let long : length piece ≡ length arm.field-0.items = c.in_ok-of_places-in-Blocks.ensures.wide ∙ sym width ∙ length-map arm.field-0.items of_kind in
     let count : c.len-start.result ≡ length arm.pieces.items = omega (arith, c.len-start.ensures, arm.pieces.ok.0) in
     rw arm.is (blocks_taken places numbers (map (λ n. c.len-start.result * BLOCK_ROWS + n) numbers) arm.field-0 arm.pieces c.push.new.self piece rows c.in_ok-push-in-Blocks.ensures.items long wide
     c.rows_are_few.ensures c.in_ok-of_places-in-Blocks.ensures.rows c.requires.within (ap (λ k. map (λ n. k * BLOCK_ROWS + n) numbers) count))

@@ -1,7 +1,6 @@
-use Rattle.std.proofs.Common.{◌<◌, ◌*◌, option_map, length, take, drop, ap, ◌∙◌, arith}
+use Rattle.std.proofs.Common.{◌<◌, ◌*◌, length, take, drop, ap, ◌∙◌, arith}
 use Rattle.block_summary.specs.declared.block.TheConstants.{BLOCK_ROWS}
-use Rattle.block_summary.specs.declared.number.PackedType.{PackedType}
-use Rattle.column_blocks.specs.TypedColumn.{ColumnCells}
+use Rattle.column_blocks.specs.TypedColumn.{cells_of_numbers, ColumnCells}
 use Rattle.table_store.specs.Block.{block_of, packed_cells}
 use Rattle.table_store.specs.Inside.{table_view}
 use Rattle.table_store.specs.Table.{TableOf}
@@ -31,6 +30,6 @@ returns c =
     let first = c.args.number * BLOCK_ROWS in
     let inside : c.args.col < length items = omega (arith, c.requires.col, c.self.invariant.columns.count, ap (λ (t : TableOf). length t.schema.columns) c.self.view_is) in
     let here = column_at table items c.args.col kept c.self.invariant.columns (slice_get-from_read items c.args.col kept inside c.index.ensures) in
-    c.packed.ensures ∙ ap (λ (k : ColumnCells). option_map (λ (type : PackedType). take BLOCK_ROWS (drop first k.cells)) k.packed_type) here.2
+    c.packed.ensures ∙ ap (λ (k : ColumnCells). cells_of_numbers k.kind (take BLOCK_ROWS (drop first k.cells))) here.2
     ∙ packed_part table here.0 first BLOCK_ROWS c.args.col here.1
     ∙ ap (λ (t : TableOf). packed_cells (block_of t c.args.number) c.args.col) c.self.view_is

@@ -30,6 +30,6 @@ returns c =
     let first = c.args.number * BLOCK_ROWS in
     let inside : c.args.col < length items = omega (arith, c.requires.col, c.self.invariant.columns.count, ap (λ (t : TableOf). length t.schema.columns) c.self.view_is) in
     let here = column_at table items c.args.col kept c.self.invariant.columns (slice_get-from_read items c.args.col kept inside c.index.ensures) in
-    c.texts.ensures ∙ ap (λ (k : ColumnCells). cells_of_texts k.packed_type (take BLOCK_ROWS (drop first k.cells))) here.2
+    c.texts.ensures ∙ ap (λ (k : ColumnCells). cells_of_texts k.kind (take BLOCK_ROWS (drop first k.cells))) here.2
     ∙ text_part table here.0 first BLOCK_ROWS c.args.col here.1
     ∙ ap (λ (t : TableOf). text_cells (block_of t c.args.number) c.args.col) c.self.view_is
