@@ -5,15 +5,14 @@ use Rattle.std.specs.Int.{bit_at, bit_not, trailing_zeros}
 use Rattle.std.proofs.lemmas.Nat.Bits.{bit_at-trailing_zeros, bit_at_clear_other, bit_at-zero}
 use Rattle.csv_index.specs.Blocks.{set_places}
 use Rattle.csv_index.specs.Structure.{ends_of}
-use Rattle.csv_index.specs.declared.blocks.ByteBlock.{ByteBlock}
 use Rattle.csv_index.proofs.Bits.{places_split, places_same, places_none, places_around, cleared_below}
 
 -- where no bit is left, the next block's are
-pub ends_next : (base word : ℕ) (block : ByteBlock) (rest : List ByteBlock) (last : Option ℕ) → word ≡ 0
-    → set_places base word 0 64 ++ ends_of (base + 64) (block ∷ rest) last ≡ set_places (base + 64) block.ends 0 64 ++ ends_of (base + 64 + 64) rest last
+pub ends_next : (base word : ℕ) (block : ℕ) (rest : List ℕ) (last : Option ℕ) → word ≡ 0
+    → set_places base word 0 64 ++ ends_of (base + 64) (block ∷ rest) last ≡ set_places (base + 64) block 0 64 ++ ends_of (base + 64 + 64) rest last
 ends_next base word block rest last none =
     ap (λ l. l ++ ends_of (base + 64) (block ∷ rest) last) (places_none base word 0 64 (λ k h l. ap (λ w. bit_at w k) none ∙ bit_at-zero k))
-    ∙ append_assoc (set_places (base + 64) block.ends 0 64) _ _
+    ∙ append_assoc (set_places (base + 64) block 0 64) _ _
 
 -- where no bit is left and no block is, there is the last end alone
 pub ends_last : (base word : ℕ) (last : Option ℕ) → word ≡ 0 → set_places base word 0 64 ++ ends_of (base + 64) [] last ≡ ends_of (base + 64) [] last
@@ -38,7 +37,7 @@ ends_lowest base word place some small is =
     ∙ places_same base cleared word (place + 1) (63 - place) (λ k h l. bit_at_clear_other w64 word place within k (omega arith) (λ e. omega arith))))
 
 -- where nothing but the last end is left, that is taken
-pub last_taken : (old : List ℕ) (base word : ℕ) (rest : List ByteBlock) (last taken after : Option ℕ)
+pub last_taken : (old : List ℕ) (base word : ℕ) (rest : List ℕ) (last taken after : Option ℕ)
     → set_places base word 0 64 ++ ends_of (base + 64) rest last ≡ old → word ≡ 0 → rest ≡ [] → taken ≡ last → after ≡ None
     → MatchOption taken ((old ≡ []) × (set_places base word 0 64 ++ ends_of (base + 64) rest after ≡ []))
     (λ end. old ≡ end ∷ (set_places base word 0 64 ++ ends_of (base + 64) rest after))

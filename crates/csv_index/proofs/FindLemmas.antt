@@ -8,7 +8,6 @@ use Rattle.std.proofs.lemmas.Nat.Bits.{bit_at-lt, bit_at_and, bit_at-zero, bit_a
 use Rattle.csv_index.specs.Index.{Rise}
 use Rattle.csv_index.specs.Blocks.{set_places, block_places, Stands}
 use Rattle.csv_index.specs.Structure.{ends_of}
-use Rattle.csv_index.specs.declared.blocks.ByteBlock.{ByteBlock}
 use Rattle.csv_index.proofs.Bits.{places_split, places_none, places_same}
 use Rattle.csv_index.proofs.BlockLemmas.{block_places-length}
 use Rattle.csv_index.proofs.CellLemmas.{slice_get-behind}
@@ -20,22 +19,22 @@ rise_at start size (end ∷ ends) zero x rise e = let same : end ≡ x = cc in (
 rise_at start size (end ∷ ends) (suc n) x rise e = let more = rise_at (end + 1) size ends n x rise.2 e in (omega (arith, more.0, rise.0), more.1)
 
 -- around the place that was found
-pub ends_around : (start n number bit : ℕ) (blocks : List ByteBlock) (last : Option ℕ) → (s : Stands blocks n number bit)
-    → ends_of start blocks last ≡ s.front start ++ (start + 64 * number + bit) ∷ (set_places (start + 64 * number) s.block.ends (bit + 1) (63 - bit)
+pub ends_around : (start n number bit : ℕ) (blocks : List ℕ) (last : Option ℕ) → (s : Stands blocks n number bit)
+    → ends_of start blocks last ≡ s.front start ++ (start + 64 * number + bit) ∷ (set_places (start + 64 * number) s.mask (bit + 1) (63 - bit)
     ++ ends_of (start + 64 * number + 64) (drop (number + 1) blocks) last)
 ends_around start n number bit blocks last s =
     ap (λ l. l ++ option_to_list last) (s.split start)
     ∙ append_assoc (s.front start) _ (option_to_list last)
-    ∙ ap (λ l. s.front start ++ (start + 64 * number + bit) ∷ l) (append_assoc (set_places (start + 64 * number) s.block.ends (bit + 1) (63 - bit)) _ (option_to_list last))
+    ∙ ap (λ l. s.front start ++ (start + 64 * number + bit) ∷ l) (append_assoc (set_places (start + 64 * number) s.mask (bit + 1) (63 - bit)) _ (option_to_list last))
 
-pub found_end : (start n number bit : ℕ) (blocks : List ByteBlock) (last : Option ℕ) → Stands blocks n number bit
+pub found_end : (start n number bit : ℕ) (blocks : List ℕ) (last : Option ℕ) → Stands blocks n number bit
     → slice_get (ends_of start blocks last) n ≡ Some (start + 64 * number + bit)
 found_end start n number bit blocks last s =
     ap (λ l. slice_get l n) (ends_around start n number bit blocks last s)
     ∙ slice_get-behind (s.front start) _ n 0 (omega (arith, s.count start))
 
 -- where the blocks have no such place, it is the last end
-pub last_place : (start n : ℕ) (blocks : List ByteBlock) (last : Option ℕ) → length (block_places 0 blocks) ≤ n → n < length (ends_of start blocks last)
+pub last_place : (start n : ℕ) (blocks : List ℕ) (last : Option ℕ) → length (block_places 0 blocks) ≤ n → n < length (ends_of start blocks last)
     → (slice_get (ends_of start blocks last) n ≡ last) × (drop (n + 1) (ends_of start blocks last) ≡ [])
 last_place start n blocks last past within = on last within
   where
@@ -82,17 +81,17 @@ places_behind base w bit within =
         bit_at_clear_other w64 (bit_and w ((2 ^ 64 - 1) * 2 ^ bit % 2 ^ 64)) bit within k (omega arith) other ∙ before_mask w bit within k (omega arith)
 
 -- the places that follow the one that was found
-pub found_behind : (start n number bit base word : ℕ) (blocks rest : List ByteBlock) (last : Option ℕ) → (s : Stands blocks n number bit) → base ≡ start + number * 64
-    → word ≡ bit_and (bit_and s.block.ends ((2 ^ 64 - 1) * 2 ^ bit % 2 ^ 64)) (bit_not w64 (1 * 2 ^ bit % 2 ^ 64)) → rest ≡ drop (number + 1) blocks
+pub found_behind : (start n number bit base word : ℕ) (blocks rest : List ℕ) (last : Option ℕ) → (s : Stands blocks n number bit) → base ≡ start + number * 64
+    → word ≡ bit_and (bit_and s.mask ((2 ^ 64 - 1) * 2 ^ bit % 2 ^ 64)) (bit_not w64 (1 * 2 ^ bit % 2 ^ 64)) → rest ≡ drop (number + 1) blocks
     → set_places base word 0 64 ++ ends_of (base + 64) rest last ≡ drop (n + 1) (ends_of start blocks last)
 found_behind start n number bit base word blocks rest last s b w r =
     let place : base ≡ start + 64 * number = omega arith in
     let size : n + 1 ≡ length (s.front start) + 1 = omega (arith, s.count start) in
-    let tail : List ℕ = set_places (start + 64 * number) s.block.ends (bit + 1) (63 - bit) ++ ends_of (start + 64 * number + 64) (drop (number + 1) blocks) last in
+    let tail : List ℕ = set_places (start + 64 * number) s.mask (bit + 1) (63 - bit) ++ ends_of (start + 64 * number + 64) (drop (number + 1) blocks) last in
     ap (λ k. set_places k word 0 64 ++ ends_of (k + 64) rest last) place
     ∙ ap (λ v. set_places (start + 64 * number) v 0 64 ++ ends_of (start + 64 * number + 64) rest last) w
-    ∙ ap (λ l. l ++ ends_of (start + 64 * number + 64) rest last) (places_behind (start + 64 * number) s.block.ends bit s.within)
-    ∙ ap (λ bs. set_places (start + 64 * number) s.block.ends (bit + 1) (63 - bit) ++ ends_of (start + 64 * number + 64) bs last) r
+    ∙ ap (λ l. l ++ ends_of (start + 64 * number + 64) rest last) (places_behind (start + 64 * number) s.mask bit s.within)
+    ∙ ap (λ bs. set_places (start + 64 * number) s.mask (bit + 1) (63 - bit) ++ ends_of (start + 64 * number + 64) bs last) r
     ∙ sym (ap (λ k. drop k (ends_of start blocks last)) size
     ∙ ap (drop (length (s.front start) + 1)) (ends_around start n number bit blocks last s)
     ∙ drop-append-add (s.front start) ((start + 64 * number + bit) ∷ tail) 1)
@@ -107,5 +106,5 @@ no_end (end ∷ ends) zero h e = cc
 no_end (end ∷ ends) (suc n) h e = no_end ends n (omega arith) e
 
 -- so there is a last end
-pub no_last : (start n : ℕ) (blocks : List ByteBlock) → length (block_places 0 blocks) ≤ n → n < length (ends_of start blocks None) → ⊥
+pub no_last : (start n : ℕ) (blocks : List ℕ) → length (block_places 0 blocks) ≤ n → n < length (ends_of start blocks None) → ⊥
 no_last start n blocks past within = no_end (ends_of start blocks None) n within (last_place start n blocks None past within).0

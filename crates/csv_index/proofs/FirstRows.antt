@@ -1,26 +1,23 @@
 -- The first rows of a file: their places among blocks, and their fields.
-use Rattle.std.proofs.Common.{◌≡◌, ℕ, zero, suc, ◌+◌, ◌-◌, ◌*◌, ◌/◌, ◌^◌, ◌<◌, ◌≤◌, min, List, [], ◌∷◌, ◌++◌, length, length-append, append_assoc, append-nil, map, take, drop, Option, Some, None, true, refl, sym, subst, ap, ◌∙◌, arith, inl, inr, bit_and}
+use Rattle.std.proofs.Common.{◌≡◌, ℕ, zero, suc, ◌+◌, ◌-◌, ◌*◌, ◌/◌, ◌^◌, ◌<◌, ◌≤◌, min, List, [], ◌∷◌, ◌++◌, length, length-append, append_assoc, append-nil, map, take, drop, Option, Some, None, true, refl, sym, subst, ap, ◌∙◌, arith, bit_and}
 use Rattle.std.proofs.lemmas.List.{drop-take, get_or-take, length-take, take-map, take_at}
 use Rattle.std.proofs.lemmas.Nat.Bits.{bit_at-lt, bit_at_and, bit_at_mask_above, bit_at_mask_inside, ones_shr}
 use Rattle.std.proofs.Math.Nat.{mul-le-mul}
-use Rattle.std.proofs.lemmas.Bool.{cases_order}
-use Rattle.std.proofs.lemmas.Option.{same_Some, slice_get-get_or, slice_get_within}
+use Rattle.std.proofs.lemmas.Option.{slice_get-get_or, slice_get_within}
 use Rattle.std.specs.Prelude.{get_or, IsUtf8}
 use Rattle.std.specs.Int.{bit_at}
-use Rattle.std.specs.List.{slice_get, slice_range, AllByRecursion}
+use Rattle.std.specs.List.{slice_range, AllByRecursion}
 use Rattle.std.specs.Str.{is_utf8, IsCharBoundary}
 use Rattle.csv_grammar.specs.Raw.{RawField, RawTable}
 use Rattle.csv_fields.specs.Between.{cut, raw_between}
 use Rattle.csv_fields.specs.Rows.{rows_cut}
-use Rattle.csv_index.specs.Blocks.{set_places, block_places, rank, AreRanked, Stands}
+use Rattle.csv_index.specs.Blocks.{cut_mask, set_places, block_places, Stands}
 use Rattle.csv_index.specs.Index.{Places, raws, start_at, table_in, first_bytes, first_places, AreAscii, FitsFile, Rise}
 use Rattle.csv_index.specs.Structure.{ends_of}
-use Rattle.csv_index.specs.declared.blocks.ByteBlock.{ByteBlock}
 use Rattle.csv_index.proofs.Bits.{places_around, places_none, places_same}
 use Rattle.csv_index.proofs.BlockLemmas.{block_places-length, block_places-push}
-use Rattle.csv_grammar.proofs.ListLaws.{slice_get-take}
 use Rattle.csv_index.proofs.Boundaries.{start_boundary}
-use Rattle.csv_index.proofs.CellLemmas.{rise_length, slice_get-behind, slice_get-front}
+use Rattle.csv_index.proofs.CellLemmas.{rise_length}
 use Rattle.csv_index.proofs.FindLemmas.{ends_around}
 use Rattle.csv_index.proofs.PartLemmas.{take-rows_cut}
 use Rattle.csv_index.proofs.PartPlaces.{rows_cut_front, take_front}
@@ -58,57 +55,24 @@ places_to base w bit within set =
 -- ---- the blocks up to one
 
 -- the places of the blocks up to one, and of that up to one of its bits
-first_ends : (start n number bit : ℕ) (blocks : List ByteBlock) (block : ByteBlock) (last : Option ℕ) → (s : Stands blocks n number bit)
-    → block.ends ≡ bit_and s.block.ends ((2 ^ 64 - 1) / 2 ^ (63 - bit))
+first_ends : (start n number bit : ℕ) (blocks : List ℕ) (block : ℕ) (last : Option ℕ) → (s : Stands blocks n number bit)
+    → block ≡ cut_mask s.mask bit
     → ends_of start (take number blocks ++ block ∷ []) None ≡ take (n + 1) (ends_of start blocks last)
 first_ends start n number bit blocks block last s is =
     let base : ℕ = start + 64 * number in
-    let size : length (take number blocks) ≡ number = omega (arith, length-take number blocks, slice_get_within blocks number s.block s.is) in
+    let size : length (take number blocks) ≡ number = omega (arith, length-take number blocks, slice_get_within blocks number s.mask s.is) in
     let front = s.front start in
-    let tail = set_places base s.block.ends (bit + 1) (63 - bit) ++ ends_of (base + 64) (drop (number + 1) blocks) last in
+    let tail = set_places base s.mask (bit + 1) (63 - bit) ++ ends_of (base + 64) (drop (number + 1) blocks) last in
     let whole : ends_of start blocks last ≡ (front ++ (base + bit) ∷ []) ++ tail =
     ends_around start n number bit blocks last s ∙ sym (append_assoc front ((base + bit) ∷ []) tail) in
     let count : length (front ++ (base + bit) ∷ []) ≡ n + 1 = omega (arith, length-append front ((base + bit) ∷ []), s.count start) in
     append-nil (block_places start (take number blocks ++ block ∷ []))
     ∙ block_places-push start base (take number blocks) block (ap (λ k. start + 64 * k) (sym size))
     ∙ ap (λ w. block_places start (take number blocks) ++ set_places base w 0 64) is
-    ∙ ap (λ l. block_places start (take number blocks) ++ l) (places_to base s.block.ends bit s.within s.set)
-    ∙ sym (append_assoc (block_places start (take number blocks)) (set_places base s.block.ends 0 bit) ((base + bit) ∷ []))
+    ∙ ap (λ l. block_places start (take number blocks) ++ l) (places_to base s.mask bit s.within s.set)
+    ∙ sym (append_assoc (block_places start (take number blocks)) (set_places base s.mask 0 bit) ((base + bit) ∷ []))
     ∙ ap (λ l. l ++ (base + bit) ∷ []) (sym (s.before start))
     ∙ sym (ap (take (n + 1)) whole ∙ take_at (front ++ (base + bit) ∷ []) tail (n + 1) count)
-
-take_of-front : {X : Type 0} (xs ys : List X) (n : ℕ) → n ≤ length xs → take n (xs ++ ys) ≡ take n xs
-take_of-front xs ys zero within = refl
-take_of-front [] ys (suc n) within = absurd (omega arith)
-take_of-front (x ∷ xs) ys (suc n) within = ap (λ rest. x ∷ rest) (take_of-front xs ys n (omega arith))
-
-take_front_of : {X : Type 0} (n m : ℕ) (xs : List X) → n ≤ m → take n (take m xs) ≡ take n xs
-take_front_of n m xs within =
-    let whole : m ≡ n + (m - n) = omega arith in
-    ap (λ k. take n (take k xs)) whole ∙ take_front n (m - n) xs
-
--- they are ranked, where the last keeps how many stand before it
-first_ranked : (blocks : List ByteBlock) (number : ℕ) (was last : ByteBlock) → AreRanked blocks → slice_get blocks number ≡ Some was → last.before ≡ was.before
-    → AreRanked (take number blocks ++ last ∷ [])
-first_ranked blocks number was last ranked is same k block e =
-    let within = slice_get_within blocks number was is in
-    let size : length (take number blocks) ≡ number = omega (arith, length-take number blocks, within) in
-    elim (cases_order k number) [
-      | inl here ↦
-          let front : take k (take number blocks ++ last ∷ []) ≡ take k blocks =
-          take_of-front (take number blocks) (last ∷ []) k (omega (arith, size, here)) ∙ take_front_of k number blocks (omega (arith, here)) in
-          let at : last ≡ block = same_Some last block (sym (slice_get-behind (take number blocks) (last ∷ []) k 0 (omega (arith, size, here))) ∙ e) in
-          ap (λ (b : ByteBlock). b.before) (sym at) ∙ same ∙ ranked number was is ∙ ap (rank blocks) (sym here)
-          ∙ sym (ap (λ bs. length (block_places 0 bs)) front)
-      | inr (inl less) ↦
-          let front : take k (take number blocks ++ last ∷ []) ≡ take k blocks =
-          take_of-front (take number blocks) (last ∷ []) k (omega (arith, size, less)) ∙ take_front_of k number blocks (omega (arith, less)) in
-          let at : slice_get blocks k ≡ Some block =
-          sym (slice_get-take number blocks k less) ∙ sym (slice_get-front (take number blocks) (last ∷ []) k (omega (arith, size, less))) ∙ e in
-          ranked k block at ∙ sym (ap (λ bs. length (block_places 0 bs)) front)
-      | inr (inr more) ↦
-          absurd (omega (arith, more, size, length-append (take number blocks) (last ∷ []), slice_get_within (take number blocks ++ last ∷ []) k block e))
-    ]
 
 -- ---- the places up to one
 start_above : (start size : ℕ) (ends : List ℕ) (n : ℕ) → Rise start ends size → start ≤ start_at start ends n
@@ -227,31 +191,27 @@ few_rows places row size rise wide within =
     (omega (arith, one), omega (arith, most, within))
 
 -- a place that another follows is one of the blocks
-pub not_past : (start n : ℕ) (blocks : List ByteBlock) (last : Option ℕ) → 0 < n → length (block_places 0 blocks) ≤ n - 1 → n < length (ends_of start blocks last) → ⊥
+pub not_past : (start n : ℕ) (blocks : List ℕ) (last : Option ℕ) → 0 < n → length (block_places 0 blocks) ≤ n - 1 → n < length (ends_of start blocks last) → ⊥
 not_past start n blocks None some past within =
     omega (arith, some, past, within, block_places-length start 0 blocks, length-append (block_places start blocks) [])
 not_past start n blocks (Some end) some past within =
     omega (arith, some, past, within, block_places-length start 0 blocks, length-append (block_places start blocks) (end ∷ []))
 
 -- ---- the blocks that are kept
-pub record AreKept (start n : ℕ) (blocks kept : List ByteBlock) (last : Option ℕ) : Type 0 where
-  pub ends : ends_of start kept None ≡ take (n + 1) (ends_of start blocks last)
-  pub ranked : AreRanked kept
-  pub few : length kept ≤ length blocks
+pub record AreKept (start n : ℕ) (masks kept : List ℕ) (last : Option ℕ) : Type 0 where
+  pub ends : ends_of start kept None ≡ take (n + 1) (ends_of start masks last)
+  pub few : length kept ≤ length masks
   pub rise : Rise start (ends_of start kept None) (2 ^ 63)
 
-pub are_kept : (start n number bit : ℕ) (blocks kept : List ByteBlock) (last : Option ℕ) (was block : ByteBlock) → AreRanked blocks → Rise start (ends_of start blocks last) (2 ^ 63)
-    → (s : Stands blocks n number bit) → was ≡ s.block → block.ends ≡ bit_and was.ends ((2 ^ 64 - 1) / 2 ^ (63 - bit)) → block.before ≡ was.before
-    → kept ≡ take number blocks ++ block ∷ [] → AreKept start n blocks kept last
-are_kept start n number bit blocks kept last was block ranked rise s same ends before is =
-    let within = slice_get_within blocks number s.block s.is in
-    let word : block.ends ≡ bit_and s.block.ends ((2 ^ 64 - 1) / 2 ^ (63 - bit)) = ends ∙ ap (λ (b : ByteBlock). bit_and b.ends ((2 ^ 64 - 1) / 2 ^ (63 - bit))) same in
-    let all : ends_of start kept None ≡ take (n + 1) (ends_of start blocks last) =
-    ap (λ bs. ends_of start bs None) is ∙ first_ends start n number bit blocks block last s word in record {
+pub are_kept : (start n number bit mask : ℕ) (masks kept : List ℕ) (last : Option ℕ) → Rise start (ends_of start masks last) (2 ^ 63)
+    → (s : Stands masks n number bit) → mask ≡ s.mask → kept ≡ take number masks ++ cut_mask mask bit ∷ [] → AreKept start n masks kept last
+are_kept start n number bit mask masks kept last rise s same is =
+    let within = slice_get_within masks number s.mask s.is in
+    let all : ends_of start kept None ≡ take (n + 1) (ends_of start masks last) =
+    ap (λ bs. ends_of start bs None) is ∙ first_ends start n number bit masks (cut_mask mask bit) last s (ap (λ w. cut_mask w bit) same) in record {
       ends = all;
-      ranked = subst AreRanked (sym is) (first_ranked blocks number s.block block ranked s.is (before ∙ ap (λ (b : ByteBlock). b.before) same));
-      few = omega (arith, ap length is, length-append (take number blocks) (block ∷ []), length-take number blocks, within);
-      rise = subst (λ l. Rise start l (2 ^ 63)) (sym all) (rise_first start (2 ^ 63) (ends_of start blocks last) (n + 1) rise);
+      few = omega (arith, ap length is, length-append (take number masks) (cut_mask mask bit ∷ []), length-take number masks, within);
+      rise = subst (λ l. Rise start l (2 ^ 63)) (sym all) (rise_first start (2 ^ 63) (ends_of start masks last) (n + 1) rise);
     }
 
 -- ---- where the first rows end

@@ -6,6 +6,7 @@ pub mod RowLemmas
 pub mod Boundaries
 pub mod Bits
 pub mod BlockLemmas
+pub mod GroupLemmas
 pub mod WidthLemmas
 pub mod EndLemmas
 pub mod Trees

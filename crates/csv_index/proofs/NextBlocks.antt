@@ -18,7 +18,6 @@ use Rattle.quote_parity.specs.Words.{IsLowest}
 use Rattle.quote_parity.specs.Carry.{AreMasks}
 use Rattle.quote_parity.specs.declared.carry.Masks.{Masks}
 use Rattle.csv_index.specs.Widths.{mask_role, mask_roles}
-use Rattle.csv_index.specs.declared.blocks.ByteBlock.{ByteBlock}
 use Rattle.csv_index.specs.declared.widths.Widths.{Widths}
 use Rattle.csv_index.specs.Reading.{HasReadText, HasFaultFrom}
 
@@ -162,7 +161,7 @@ pub record StepsTo (text : List ℕ) (n len : ℕ) (masks : Masks) (behind : Tex
   pub fault : masks.fault < 2 ^ len
 
 -- what `step` ensures, at the next block
-pub steps_to : (text rest : List ℕ) (n len : ℕ) (classes : Classes) (masks : Masks) (carry behind : TextCarry) (blocks : List ByteBlock) (widths : Widths) (was : Bool)
+pub steps_to : (text rest : List ℕ) (n len : ℕ) (classes : Classes) (masks : Masks) (carry behind : TextCarry) (blocks : List ℕ) (widths : Widths) (was : Bool)
     → HasReadText text n carry blocks widths was → rest ≡ drop (64 * n) text → 0 < len → len ≡ min (length rest) 64 → AreClasses classes (block_from rest 0)
     → ((t b : List ℕ) → carry ≡ carry_of t → length b ≡ len → AreClasses classes b → behind ≡ carry_of (t ++ b))
     → ((t b : List ℕ) → carry ≡ carry_of t → length b ≡ len → AreClasses classes b → IsViable t → AreMasks masks t b)

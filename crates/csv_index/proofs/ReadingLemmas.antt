@@ -1,12 +1,12 @@
 -- A reading in blocks: what is known after a front of the text, and with one block more.
-use Rattle.std.proofs.Common.{◌≡◌, ℕ, zero, suc, ◌+◌, ◌-◌, ◌*◌, ◌%◌, ◌^◌, ◌<◌, ◌≤◌, ◌==◌, List, [], ◌∷◌, ◌++◌, length, length-append, length-drop, append-nil, take, drop, Bool, true, false, cond, Some, refl, sym, ap, inl, inr, ◌∙◌, subst, arith, bit_or, ltb}
-use Rattle.std.specs.Prelude.{◌⊎◌, slice_get, min}
-use Rattle.std.specs.Vec.{vec_len, vec_capacity}
+use Rattle.std.proofs.Common.{◌≡◌, ℕ, zero, suc, ◌+◌, ◌-◌, ◌*◌, ◌%◌, ◌^◌, ◌<◌, ◌≤◌, ◌==◌, List, [], ◌∷◌, ◌++◌, length, length-append, length-drop, append-nil, take, drop, Bool, true, false, cond, refl, sym, ap, inl, inr, ◌∙◌, subst, arith, bit_or}
+use Rattle.std.specs.Prelude.{◌⊎◌, min}
+use Rattle.std.specs.Vec.{vec_len}
 use Rattle.std.specs.Int.{bit_at}
 use Rattle.std.specs.Int.RustNames.{count_ones}
 use Rattle.std.proofs.Math.Nat.{mod-eq_of_lt}
-use Rattle.std.proofs.lemmas.List.{drop_all, take_all, take-append-le, length-take, drop-drop, nil_from_length}
-use Rattle.std.proofs.lemmas.Bool.{cases_lt, ltb-true, ltb-false}
+use Rattle.std.proofs.lemmas.List.{drop_all, take_all, length-take, drop-drop, nil_from_length}
+use Rattle.std.proofs.lemmas.Bool.{cases_lt}
 use Rattle.std.proofs.lemmas.Nat.Bits.{bit_at-lt, bit_at_above}
 use Rattle.std.proofs.lemmas.Nat.{or_lt}
 use Rattle.csv_grammar.specs.Faults.{IsViable}
@@ -14,15 +14,14 @@ use Rattle.csv_grammar.specs.Structure.{Role, separator, record_end, inner, AreR
 use Rattle.csv_grammar.specs.Following.{TextCarry, carry_of}
 use Rattle.csv_grammar.specs.Laws.{OneStructure, WhatFollows}
 use Rattle.quote_parity.specs.declared.carry.Masks.{Masks}
-use Rattle.csv_index.specs.Blocks.{set_places, block_places, rank, AreRanked}
+use Rattle.csv_index.specs.Blocks.{set_places, block_places, AreRanked, HasRoomFor}
 use Rattle.csv_index.specs.Widths.{uncounted, roles_counted, mask_role, mask_roles}
-use Rattle.csv_index.specs.declared.blocks.ByteBlock.{ByteBlock}
+use Rattle.csv_index.specs.declared.blocks.ByteBlocks.{ByteBlocks}
 use Rattle.csv_index.specs.declared.widths.Widths.{Widths}
 use Rattle.csv_index.specs.Reading.{role_places, role_open, open_after, bytes_left, HasReadBlocks, HasReadText, IsBlockReading}
 use Rattle.csv_index.specs.declared.reading.Reading.{Reading}
 use Rattle.csv_index.proofs.Bits.{role_places-append, role_places-length, places_from_roles, places_split, places_none, roles_by_ends, roles_split, roles_one, ones_whole}
 use Rattle.csv_index.proofs.BlockLemmas.{block_places-push}
-use Rattle.csv_index.proofs.CellLemmas.{slice_get-front, slice_get-behind}
 use Rattle.csv_index.proofs.WidthLemmas.{roles_counted-append, places_counted, counted_most, no_ends}
 use Rattle.csv_index.proofs.TreeCounts.{open_after-append}
 use Rattle.csv_index.proofs.NextBlocks.{block_roles, next_block, StepsTo, less_wide, length-next_block, length-front, next_front}
@@ -40,35 +39,8 @@ has_read_none laws follows text =
       places = λ mark. refl;
       counted = refl;
       count = refl;
-      ranked = λ k block e. absurd (none_at [] k block refl e);
       state = refl;
     }
-  where
-    none_at : (blocks : List ByteBlock) (k : ℕ) (block : ByteBlock) → length blocks ≡ 0 → slice_get blocks k ≡ Some block → ⊥
-    none_at [] k block h e = cc
-    none_at (first ∷ blocks) k block h e = omega arith
-
--- with one block more, each knows how many stand before it
-ranked_push : (blocks : List ByteBlock) (block : ByteBlock) → AreRanked blocks → block.before ≡ length (block_places 0 blocks) → AreRanked (blocks ++ block ∷ [])
-ranked_push blocks block ranked here = λ k b e. on k b e (ltb k (length blocks)) refl
-  where
-    front : (k : ℕ) → k ≤ length blocks → rank (blocks ++ block ∷ []) k ≡ rank blocks k
-    front k h = ap (λ bs. length (block_places 0 bs)) (take-append-le k blocks (block ∷ []) h)
-
-    one : (k : ℕ) (b : ByteBlock) → slice_get (block ∷ []) k ≡ Some b → (k ≡ 0) × (block ≡ b)
-    one zero b e = (refl, cc)
-    one (suc zero) b e = absurd (cc)
-    one (suc (suc k)) b e = absurd (cc)
-
-    on : (k : ℕ) (b : ByteBlock) → slice_get (blocks ++ block ∷ []) k ≡ Some b → (t : Bool) → ltb k (length blocks) ≡ t → b.before ≡ rank (blocks ++ block ∷ []) k
-    on k b e true h =
-        let less : k < length blocks = ltb-true k (length blocks) h in
-        ranked k b (sym (slice_get-front blocks (block ∷ []) k less) ∙ e) ∙ sym (front k (omega arith))
-    on k b e false h =
-        let past : length blocks ≤ k = ltb-false k (length blocks) h in
-        let last = one (k - length blocks) b (sym (slice_get-behind blocks (block ∷ []) k (k - length blocks) (omega arith)) ∙ e) in
-        let same : k ≡ length blocks = omega (arith, last.0) in
-        ap (λ (x : ByteBlock). x.before) (sym last.1) ∙ here ∙ sym (ap (rank (blocks ++ block ∷ [])) same ∙ front (length blocks) (omega arith) ∙ ap (λ bs. length (block_places 0 bs)) (take_all (length blocks) blocks (omega arith)))
 
 -- a block's bytes are its bits below its length
 roles_whole : (sep eol len : ℕ) (w : Widths) → len ≤ 64 → sep < 2 ^ len → eol < 2 ^ len → roles_counted w (mask_roles sep eol 0 64) ≡ roles_counted w (mask_roles sep eol 0 len)
@@ -105,13 +77,13 @@ block_open was sep eol last len e =
     ∙ open_bit (bit_at eol last) (bit_at sep last == 1) (bit_at-lt eol last)
 
 -- the counts after a front of the text: how many structural places come before the next block, and no more than there are bytes
-pub record AreCounts (text : List ℕ) (blocks : List ByteBlock) (widths : Widths) : Type 0 where
+pub record AreCounts (text : List ℕ) (blocks : List ℕ) (widths : Widths) : Type 0 where
   pub before : widths.places ≡ length (block_places 0 blocks)
   pub places : widths.places ≤ length text
   pub start : widths.start ≤ widths.places
   pub records : widths.records ≤ length text
 
-pub read_counts : (laws : OneStructure) (text : List ℕ) (n : ℕ) (carry : TextCarry) (blocks : List ByteBlock) (widths : Widths) (was : Bool)
+pub read_counts : (laws : OneStructure) (text : List ℕ) (n : ℕ) (carry : TextCarry) (blocks : List ℕ) (widths : Widths) (was : Bool)
     → HasReadText text n carry blocks widths was → AreCounts text blocks widths
 read_counts laws text n carry blocks widths was read =
     let most = counted_most uncounted read.roles (omega arith) in
@@ -144,16 +116,15 @@ next_roles laws text n len masks behind roles are s none =
     }
 
 -- one block more
-pub has_read_more : (laws : OneStructure) (text : List ℕ) (n len last : ℕ) (masks : Masks) (carry behind : TextCarry) (blocks : List ByteBlock) (widths counted : Widths) (was unended : Bool)
+pub has_read_more : (laws : OneStructure) (text : List ℕ) (n len last : ℕ) (masks : Masks) (carry behind : TextCarry) (blocks : List ℕ) (widths counted : Widths) (was unended : Bool)
     → HasReadText text n carry blocks widths was → StepsTo text n len masks behind → masks.fault ≡ 0
     → counted ≡ roles_counted widths (mask_roles (bit_or masks.sep masks.eol) masks.eol 0 64) → len ≡ last + 1 → unended ≡ bit_at masks.eol last == 0
-    → HasReadText text (n + 1) behind (blocks ++ record { ends = bit_or masks.sep masks.eol; before = widths.places } ∷ []) counted unended
+    → HasReadText text (n + 1) behind (blocks ++ bit_or masks.sep masks.eol ∷ []) counted unended
 has_read_more laws text n len last masks carry behind blocks widths counted was unended read s none c l u =
     let front = next_front text n len s.more s.len_is in
     let most : len ≤ 64 = omega (arith, s.len_is) in
     let next = next_roles laws text n len masks behind read.roles read.are s none in
     let ends : ℕ = bit_or masks.sep masks.eol in
-    let block : ByteBlock = record { ends = ends; before = widths.places } in
     let size : length read.roles ≡ 64 * n = laws.count (take (64 * n) text) read.roles read.are ∙ length-front text n len s.more s.len_is in
     let place : (mark : ℕ) → mark + 64 * n ≡ mark + 64 * length blocks = λ mark. omega (arith, read.count) in
     let start : (mark : ℕ) → mark + 64 * n ≡ mark + length read.roles = λ mark. omega arith in record {
@@ -161,7 +132,7 @@ has_read_more laws text n len last masks carry behind blocks widths counted was 
       viable = next.viable;
       roles = next.next;
       are = next.are;
-      places = λ mark. block_places-push mark (mark + 64 * n) blocks block (place mark)
+      places = λ mark. block_places-push mark (mark + 64 * n) blocks ends (place mark)
           ∙ ap (λ xs. xs ++ set_places (mark + 64 * n) ends 0 64) (read.places mark)
           ∙ ap (λ xs. role_places mark read.roles ++ xs) (places_whole (mark + 64 * n) masks.sep masks.eol len most s.sep s.eol ∙ ap (λ k. role_places k (mask_roles masks.sep masks.eol 0 len)) (start mark))
           ∙ sym (role_places-append mark read.roles (mask_roles masks.sep masks.eol 0 len))
@@ -172,8 +143,7 @@ has_read_more laws text n len last masks carry behind blocks widths counted was 
           ∙ ap (λ w. roles_counted w (mask_roles masks.sep masks.eol 0 len)) read.counted
           ∙ sym (roles_counted-append uncounted read.roles (mask_roles masks.sep masks.eol 0 len))
           ∙ ap (roles_counted uncounted) (sym next.is);
-      count = length-append blocks (block ∷ []) ∙ omega (arith, read.count);
-      ranked = ranked_push blocks block read.ranked (read_counts laws text n carry blocks widths was read).before;
+      count = length-append blocks (ends ∷ []) ∙ omega (arith, read.count);
       state = u ∙ sym (block_open (open_after false read.roles) masks.sep masks.eol last len l) ∙ sym (open_after-append false read.roles (mask_roles masks.sep masks.eol 0 len))
           ∙ ap (open_after false) (sym next.is);
     }
@@ -183,43 +153,60 @@ has_read_more laws text n len last masks carry behind blocks widths counted was 
 -- this is left
 pub record IsUnderWay (text rest : List ℕ) (r : Reading) : Type 0 where
   pub reads : IsBlockReading text r
-  pub rest_is : rest ≡ drop (64 * vec_len r.blocks) text
+  pub rest_is : rest ≡ drop (64 * vec_len r.blocks.masks) text
 
 pub left_is : (text rest : List ℕ) (r : Reading) → IsUnderWay text rest r → length rest ≡ bytes_left text r
-left_is text rest r going = ap length going.rest_is ∙ length-drop (64 * vec_len r.blocks) text
+left_is text rest r going = ap length going.rest_is ∙ length-drop (64 * vec_len r.blocks.masks) text
 
 -- all that is after the blocks, of which the last may be short
-pub under_way : (text : List ℕ) (r : Reading) (at : ℕ) → at ≡ min (vec_len r.blocks * 64) (length text) → IsBlockReading text r
+pub under_way : (text : List ℕ) (r : Reading) (at : ℕ) → at ≡ min (vec_len r.blocks.masks * 64) (length text) → IsBlockReading text r
     → IsUnderWay text (take (length text - at) (drop at text)) r
 under_way text r at is reads = record {
   reads = reads;
-  rest_is = take_all (length text - at) (drop at text) (omega (arith, length-drop at text)) ∙ on (cases_lt (64 * vec_len r.blocks) (length text));
+  rest_is = take_all (length text - at) (drop at text) (omega (arith, length-drop at text)) ∙ on (cases_lt (64 * vec_len r.blocks.masks) (length text));
 }
   where
-    on : (64 * vec_len r.blocks < length text) ⊎ (length text ≤ 64 * vec_len r.blocks) → drop at text ≡ drop (64 * vec_len r.blocks) text
-    on (inl less) = let same : at ≡ 64 * vec_len r.blocks = omega (arith, is, less) in ap (λ k. drop k text) same
-    on (inr past) = drop_all at text (omega (arith, is, past)) ∙ sym (drop_all (64 * vec_len r.blocks) text past)
+    on : (64 * vec_len r.blocks.masks < length text) ⊎ (length text ≤ 64 * vec_len r.blocks.masks) → drop at text ≡ drop (64 * vec_len r.blocks.masks) text
+    on (inl less) = let same : at ≡ 64 * vec_len r.blocks.masks = omega (arith, is, less) in ap (λ k. drop k text) same
+    on (inr past) = drop_all at text (omega (arith, is, past)) ∙ sym (drop_all (64 * vec_len r.blocks.masks) text past)
 
 -- nothing is read
-pub none_read : OneStructure → WhatFollows → (text : List ℕ) (r : Reading) → vec_len r.blocks ≡ 0 → r.blocks.items ≡ [] → r.carry ≡ carry_of [] → r.widths ≡ uncounted → r.unended ≡ false
-    → length text ≤ 64 * vec_capacity r.blocks → IsBlockReading text r
-none_read laws follows text r n b c w u room = record { read = rw (n, b, c, w, u) (has_read_none laws follows text); within = omega (arith, n); room = room }
+pub none_read : OneStructure → WhatFollows → (text : List ℕ) (r : Reading) → vec_len r.blocks.masks ≡ 0 → r.blocks.masks.items ≡ [] → r.carry ≡ carry_of [] → r.widths ≡ uncounted → r.unended ≡ false
+    → AreRanked [] r.blocks.before.items → HasRoomFor (length text) r.blocks → IsBlockReading text r
+none_read laws follows text r n b c w u ranked room = record {
+  read = rw (n, b, c, w, u) (has_read_none laws follows text);
+  ranked = rw b ranked;
+  within = omega (arith, n);
+  room = room;
+}
+
+-- there is room for less
+pub room_less : (most bytes : ℕ) (blocks : ByteBlocks) → bytes ≤ most → HasRoomFor most blocks → HasRoomFor bytes blocks
+room_less most bytes blocks less room = record { masks = omega (arith, room.masks); before = omega (arith, room.before) }
+
+-- there is room for the next block
+pub room_left : (text rest : List ℕ) (r : Reading) → IsUnderWay text rest r → 0 < length rest → HasRoomFor (64 * vec_len r.blocks.masks + 1) r.blocks
+room_left text rest r going some =
+    room_less (length text) (64 * vec_len r.blocks.masks + 1) r.blocks (omega (arith, left_is text rest r going)) going.reads.room
 
 -- one block more is read, of 64 bytes or of all that are left
-pub one_more : (text rest : List ℕ) (r more : Reading) → IsUnderWay text rest r → 0 < length rest → HasReadBlocks text (vec_len r.blocks + 1) more
-    → vec_len more.blocks ≡ vec_len r.blocks + 1 → vec_capacity more.blocks ≡ vec_capacity r.blocks → IsBlockReading text more
-one_more text rest r more going some read count room =
+pub one_more : (text rest : List ℕ) (r more : Reading) → IsUnderWay text rest r → 0 < length rest → HasReadBlocks text (vec_len r.blocks.masks + 1) more
+    → AreRanked more.blocks.masks.items more.blocks.before.items → vec_len more.blocks.masks ≡ vec_len r.blocks.masks + 1
+    → ((bytes : ℕ) → HasRoomFor bytes r.blocks → HasRoomFor bytes more.blocks) → IsBlockReading text more
+one_more text rest r more going some read ranked count room =
     let size = left_is text rest r going in record {
       read = subst (λ n. HasReadBlocks text n more) (sym count) read;
+      ranked = ranked;
       within = omega (arith, size, some, count);
-      room = omega (arith, room, going.reads.room);
+      room = room (length text) going.reads.room;
     }
 
-pub under_way_more : (text rest : List ℕ) (r more : Reading) → IsUnderWay text rest r → 64 ≤ length rest → HasReadBlocks text (vec_len r.blocks + 1) more
-    → vec_len more.blocks ≡ vec_len r.blocks + 1 → vec_capacity more.blocks ≡ vec_capacity r.blocks → IsUnderWay text (take (length rest - 64) (drop 64 rest)) more
-under_way_more text rest r more going some read count room =
-    let sum : 64 * vec_len r.blocks + 64 ≡ 64 * vec_len more.blocks = omega (arith, count) in record {
-      reads = one_more text rest r more going (omega (arith, some)) read count room;
-      rest_is = take_all (length rest - 64) (drop 64 rest) (omega (arith, length-drop 64 rest)) ∙ ap (drop 64) going.rest_is ∙ drop-drop 64 (64 * vec_len r.blocks) text
+pub under_way_more : (text rest : List ℕ) (r more : Reading) → IsUnderWay text rest r → 64 ≤ length rest → HasReadBlocks text (vec_len r.blocks.masks + 1) more
+    → AreRanked more.blocks.masks.items more.blocks.before.items → vec_len more.blocks.masks ≡ vec_len r.blocks.masks + 1
+    → ((bytes : ℕ) → HasRoomFor bytes r.blocks → HasRoomFor bytes more.blocks) → IsUnderWay text (take (length rest - 64) (drop 64 rest)) more
+under_way_more text rest r more going some read ranked count room =
+    let sum : 64 * vec_len r.blocks.masks + 64 ≡ 64 * vec_len more.blocks.masks = omega (arith, count) in record {
+      reads = one_more text rest r more going (omega (arith, some)) read ranked count room;
+      rest_is = take_all (length rest - 64) (drop 64 rest) (omega (arith, length-drop 64 rest)) ∙ ap (drop 64) going.rest_is ∙ drop-drop 64 (64 * vec_len r.blocks.masks) text
           ∙ ap (λ k. drop k text) sum;
     }

@@ -15,7 +15,6 @@ use Rattle.csv_index.specs.Structure.{all_fields, Cuts, ends_of, ReadsAsRecords,
 use Rattle.csv_index.specs.Fault.{text_cause}
 use Rattle.csv_index.specs.declared.fault.TextFault.{TextFault}
 use Rattle.csv_index.specs.declared.fault.TextFault.TheVariants.{Unfinished}
-use Rattle.csv_index.specs.declared.blocks.ByteBlock.{ByteBlock}
 use Rattle.csv_index.specs.declared.widths.Widths.{Widths}
 use Rattle.csv_index.specs.Reading.{role_places, open_after, HasReadText}
 use Rattle.csv_index.proofs.Trees.{last_end, tree_pieces, tree_texts}
@@ -29,7 +28,7 @@ last_end-is : (size : ℕ) (last : Option (List Field)) → end_if (is_some last
 last_end-is size None = refl
 last_end-is size (Some fields) = refl
 
-pub reads_as : (laws : OneStructure) (file : List ℕ) (mark n : ℕ) (carry : TextCarry) (blocks : List ByteBlock) (widths : Widths) (was : Bool) → IsUtf8 file → mark ≤ length file
+pub reads_as : (laws : OneStructure) (file : List ℕ) (mark n : ℕ) (carry : TextCarry) (blocks : List ℕ) (widths : Widths) (was : Bool) → IsUtf8 file → mark ≤ length file
     → IsCharBoundary file mark → HasReadText (drop mark file) n carry blocks widths was → length (drop mark file) ≤ 64 * n → mark + 64 * n + 64 < 2 ^ 64
     → (records : List (List Field)) × AreRecords (drop mark file) records
     → (records : List (List Field)) × ReadsAsRecords file mark records blocks (end_if was (length file)) (counted_if was widths)
@@ -59,7 +58,6 @@ reads_as laws file mark n carry blocks widths was utf8 within boundary read all 
         });
         count = ap (λ (w : Widths). w.records) counts ∙ c.count;
         widths = subst (λ (w : Widths). CountsWidths w.width w.uneven (records_of tree)) (sym counts) c.widths;
-        ranked = read.ranked;
         room = omega (arith, read.count, room);
       },
     )
@@ -78,7 +76,7 @@ tells_end file mark n within all fault =
     inr (length text, unfinished, subst (λ t. HasFault t (length t) unfinished) whole fault, ap (λ k. Some (malformed unfinished k)) place)
 
 -- the same, by the values that the code computed
-pub reads_by : (file : List ℕ) (mark : ℕ) (records : List (List Field)) (blocks : List ByteBlock) (last : Option ℕ) (widths counted : Widths) (was is : Bool) → was ≡ is
+pub reads_by : (file : List ℕ) (mark : ℕ) (records : List (List Field)) (blocks : List ℕ) (last : Option ℕ) (widths counted : Widths) (was is : Bool) → was ≡ is
     → ReadsAsRecords file mark records blocks (end_if was (length file)) (counted_if was widths) → last ≡ end_if is (length file) → counted ≡ counted_if is widths
     → ReadsAsRecords file mark records blocks last counted
 reads_by file mark records blocks last widths counted was is same r l c =

@@ -11,7 +11,6 @@ use Rattle.csv_fields.specs.Laws.{FieldsStandSo}
 use Rattle.csv_grammar.specs.Raw.{raw_of}
 use Rattle.csv_fields.specs.Between.{cut, raw_between}
 use Rattle.csv_index.specs.Index.{Places, Rise, FitsFile, IsIndexOf}
-use Rattle.csv_index.specs.declared.blocks.ByteBlock.{ByteBlock}
 use Rattle.csv_index.specs.declared.widths.Widths.{Widths}
 use Rattle.csv_index.specs.Fault.{IsTextFault}
 use Rattle.csv_index.specs.Widths.{CountsWidths}
@@ -35,10 +34,10 @@ first_record bytes header rows records = on records.tree.lines records.tree.last
     on (line ∷ more) last lines ends e = let same : header ≡ line.fields = cc in rw same lines.0.0
 
 -- the places of a reading
-abbrev pub places_of : ℕ → List ByteBlock → Option ℕ → Widths → Places
+abbrev pub places_of : ℕ → List ℕ → Option ℕ → Widths → Places
 places_of mark blocks last w = record { start = mark; width = w.width; rows = w.records - 1; ends = ends_of mark blocks last }
 
-index_in : FieldsStandSo → (file : List ℕ) (header : List Field) (rows : List (List Field)) (blocks : List ByteBlock) (last : Option ℕ) (w : Widths) → IsUtf8 file
+index_in : FieldsStandSo → (file : List ℕ) (header : List Field) (rows : List (List Field)) (blocks : List ℕ) (last : Option ℕ) (w : Widths) → IsUtf8 file
     → ReadsAsRecords file (mark_len file) (header ∷ rows) blocks last w → w.uneven ≡ None → IsIndexOf (places_of (mark_len file) blocks last w) file
 index_in stand file header rows blocks last w utf8 read even =
     let ends : List ℕ = ends_of (mark_len file) blocks last in
@@ -68,7 +67,7 @@ index_in stand file header rows blocks last w utf8 read even =
     }
 
 -- where a record was read, and no row differs
-pub index_of : FieldsStandSo → (file : List ℕ) (mark : ℕ) (blocks : List ByteBlock) (last : Option ℕ) (w : Widths) → IsUtf8 file → mark ≡ mark_len file
+pub index_of : FieldsStandSo → (file : List ℕ) (mark : ℕ) (blocks : List ℕ) (last : Option ℕ) (w : Widths) → IsUtf8 file → mark ≡ mark_len file
     → (records : List (List Field)) × ReadsAsRecords file mark records blocks last w → w.uneven ≡ None → w.records ≢ 0
     → IsIndexOf (places_of mark blocks last w) file
 index_of stand file mark blocks last w utf8 m ([], read) even some = absurd (some read.count)

@@ -8,10 +8,9 @@ use Rattle.csv_grammar.specs.Files.{malformed}
 use Rattle.csv_grammar.specs.Raw.{raw_of}
 use Rattle.csv_fields.specs.Between.{cut, raw_between}
 use Rattle.csv_index.specs.Index.{Rise, AreAscii}
-use Rattle.csv_index.specs.Blocks.{block_places, AreRanked}
+use Rattle.csv_index.specs.Blocks.{block_places}
 use Rattle.csv_index.specs.Widths.{CountsWidths}
 use Rattle.csv_index.specs.Fault.{text_cause}
-use Rattle.csv_index.specs.declared.blocks.ByteBlock.{ByteBlock}
 use Rattle.csv_index.specs.declared.widths.Widths.{Widths}
 use Rattle.csv_index.specs.declared.fault.TextFault.{TextFault}
 use Rattle.csv_index.specs.declared.fault.TextFault.TheVariants.{NoMemory}
@@ -29,17 +28,16 @@ pub record Cuts (file : List ℕ) (mark : ℕ) (ends : List ℕ) (fields : List 
   pub ascii : AreAscii file ends
 
 -- the places after the fields: those of the blocks, and the end of a last record with no line break
-abbrev pub ends_of : ℕ → List ByteBlock → Option ℕ → List ℕ
-ends_of start blocks last = block_places start blocks ++ option_to_list last
+abbrev pub ends_of : ℕ → List ℕ → Option ℕ → List ℕ
+ends_of start masks last = block_places start masks ++ option_to_list last
 
 -- the file from its mark on is these records
-pub record ReadsAsRecords (file : List ℕ) (mark : ℕ) (records : List (List Field)) (blocks : List ByteBlock) (last : Option ℕ) (counted : Widths) : Type 0 where
+pub record ReadsAsRecords (file : List ℕ) (mark : ℕ) (records : List (List Field)) (masks : List ℕ) (last : Option ℕ) (counted : Widths) : Type 0 where
   pub are : AreRecords (drop mark file) records
-  pub cuts : Cuts file mark (ends_of mark blocks last) (all_fields records)
+  pub cuts : Cuts file mark (ends_of mark masks last) (all_fields records)
   pub count : counted.records ≡ length records
   pub widths : CountsWidths counted.width counted.uneven records
-  pub ranked : AreRanked blocks
-  pub room : mark + 64 * length blocks + 64 < 2 ^ 64
+  pub room : mark + 64 * length masks + 64 < 2 ^ 64
 
 -- the error is that memory ran out, or it names the fault of the text after the mark
 abbrev pub HasTextFault : TextFault → List ℕ → ℕ → Type 0

@@ -1,7 +1,6 @@
 //! The places after the fields of a file, one after another, each by clearing the lowest set bit of a mask.
 ghost use Rattle.std.specs.Prelude.{◌≡◌, ◌<◌, ◌≤◌, [], ◌∷◌, MatchOption, length, slice_index, take, drop};
 
-use crate::blocks::ByteBlock;
 use std::marker::Model;
 
 /// The places that are left.
@@ -11,8 +10,8 @@ pub struct Ends<'i> {
     pub word: u64,
     /// Where that block begins.
     pub base: usize,
-    /// The blocks after it.
-    pub rest: &'i [ByteBlock],
+    /// The masks of the blocks after it.
+    pub rest: &'i [u64],
     /// The end of a last record with no line break.
     pub last: Option<usize>,
 }
@@ -38,10 +37,10 @@ impl<'i> Ends<'i> {
             (λ end. self.old ≡ end ∷ self.new) }
     {
         while self.word == 0 {
-            let Some((block, rest)) = self.rest.split_first() else {
+            let Some((mask, rest)) = self.rest.split_first() else {
                 return self.last.take();
             };
-            self.word = block.ends;
+            self.word = *mask;
             self.rest = rest;
             self.base += 64;
         }

@@ -8,7 +8,7 @@ ghost use Rattle.csv_grammar.specs.Files.{text_of};
 ghost use Rattle.csv_index.specs.Fault.{IsTextFault};
 ghost use Rattle.csv_index.specs.Reading.{bytes_left, IsBlockReading};
 
-use crate::blocks::{ByteBlock, find};
+use crate::blocks::ByteBlocks;
 use crate::ends::Ends;
 use crate::fault::TextFault;
 use crate::fields::Fields;
@@ -28,7 +28,7 @@ pub struct Index {
     start: usize,
     width: usize,
     rows: usize,
-    blocks: Vec<ByteBlock>,
+    blocks: ByteBlocks,
     /// The end of a last record with no line break.
     last: Option<usize>,
 }
@@ -47,13 +47,13 @@ impl Model for Index {
       start = index.start;
       width = index.width;
       rows = index.rows;
-      ends = ends_of index.start index.blocks.items index.last;
+      ends = ends_of index.start index.blocks.masks.items index.last;
     } };
 
     ghost invariant = { λ index. record {
-      ranked : AreRanked index.blocks.items;
-      room : index.start + 64 * length index.blocks.items + 64 < 2 ^ 64;
-      rise : Rise index.start (ends_of index.start index.blocks.items index.last) (2 ^ 63);
+      ranked : AreRanked index.blocks.masks.items index.blocks.before.items;
+      room : index.start + 64 * length index.blocks.masks.items + 64 < 2 ^ 64;
+      rise : Rise index.start (ends_of index.start index.blocks.masks.items index.last) (2 ^ 63);
     } };
 }
 
@@ -199,16 +199,10 @@ impl Index {
         requires rows { (rows + 1) * self.old.width < length self.old.ends }
         ensures { self.new ≡ first_places rows self.old }
     {
-        let Some((number, bit)) = find(&self.blocks, (rows + 1) * self.width - 1) else {
+        let Some((number, bit)) = self.blocks.find((rows + 1) * self.width - 1) else {
             unreachable!();
         };
-        let block = self.blocks[number];
-        self.blocks.truncate(number);
-        self.blocks.push_reserved(ByteBlock {
-            ends: block.ends & (u64::MAX >> (63 - bit)),
-            before: block.before,
-        });
-        self.blocks.shrink_to_fit();
+        self.blocks.truncate(number, bit);
         self.last = None;
         self.rows = rows;
     }
@@ -239,7 +233,7 @@ impl Index {
         requires n { n < length self.now.ends }
         ensures { slice_get self.now.ends n ≡ Some result }
     {
-        match (find(&self.blocks, n), self.last) {
+        match (self.blocks.find(n), self.last) {
             (Some((number, bit)), _) => self.start + number * BLOCK + bit as usize,
             (None, Some(end)) => end,
             (None, None) => unreachable!(),
@@ -251,11 +245,11 @@ impl Index {
         requires n { n < length self.now.ends }
         ensures { result ≡ drop (n + 1) self.now.ends }
     {
-        match find(&self.blocks, n) {
+        match self.blocks.find(n) {
             Some((number, bit)) => Ends {
-                word: self.blocks[number].ends & (u64::MAX << bit) & !(1 << bit),
+                word: self.blocks.masks[number] & (u64::MAX << bit) & !(1 << bit),
                 base: self.start + number * BLOCK,
-                rest: &self.blocks[number + 1..],
+                rest: &self.blocks.masks[number + 1..],
                 last: self.last,
             },
             None => Ends {

@@ -1,9 +1,10 @@
 //! A text, read in blocks of 64 bytes, one after another (RFC 4180, section 2).
 ghost use Rattle.std.specs.Prelude.{◌≡◌, ℕ, ◌+◌, ◌-◌, ◌*◌, ◌^◌, ◌<◌, ◌≤◌, min, List, length, drop, IfOk, IfErr};
-ghost use Rattle.std.specs.Vec.{vec_len, vec_capacity};
+ghost use Rattle.std.specs.Vec.{vec_len};
+ghost use Rattle.csv_index.specs.Blocks.{block_places, AreRanked, HasRoomFor};
 ghost use Rattle.csv_index.specs.Reading.{bytes_left, HasReadBlocks, IsBlockReading, HasFaultFrom};
 
-use crate::blocks::ByteBlock;
+use crate::blocks::ByteBlocks;
 use crate::widths::Widths;
 use csv_grammar::{one_structure, what_follows};
 use lane_class::{BLOCK, classify, load};
@@ -13,7 +14,7 @@ use std::alloc::{AllocError, Global};
 /// What is known after the blocks that are read.
 #[derive(Drop)]
 pub struct Reading {
-    pub blocks: Vec<ByteBlock>,
+    pub blocks: ByteBlocks,
     pub carry: Carry,
     pub widths: Widths,
     /// The last byte ends no record, so one is under way.
@@ -28,7 +29,7 @@ impl Reading {
         one_structure();
         what_follows();
         Ok(Reading {
-            blocks: Vec::with_capacity(alloc, text.len().div_ceil(BLOCK))?,
+            blocks: ByteBlocks::with_room(alloc, text.len())?,
             carry: Carry::start(),
             widths: Widths::new(),
             unended: false,
@@ -45,7 +46,7 @@ impl Reading {
     {
         one_structure();
         let mut reading = self;
-        let mut rest = &text[(reading.blocks.len() * BLOCK).min(text.len())..];
+        let mut rest = &text[(reading.blocks.masks.len() * BLOCK).min(text.len())..];
         let stop = rest.len().saturating_sub(most.saturating_mul(BLOCK));
         while rest.len() >= BLOCK && rest.len() > stop {
             reading = reading.read(rest, BLOCK)?;
@@ -63,7 +64,9 @@ impl Reading {
     fn read(self, rest: &[u8], len: usize) -> Result<Reading, usize>
         requires some { 0 < len }
         requires len { len ≡ min (length rest.now) 64 }
-        requires room { vec_len self.blocks < vec_capacity self.blocks }
+        requires room { HasRoomFor (64 * vec_len self.blocks.masks + 1) self.blocks }
+        requires ranked { AreRanked self.blocks.masks.items self.blocks.before.items }
+        requires before { self.widths.places ≡ length (block_places 0 self.blocks.masks.items) }
         requires start { self.widths.start ≤ self.widths.places }
         requires places { self.widths.places < 2 ^ 63 }
         requires records { self.widths.records < 2 ^ 63 }
@@ -72,8 +75,12 @@ impl Reading {
         ensures fault { (text : List ℕ) (n : ℕ) → rest.now ≡ drop (64 * n) text
             → HasReadBlocks text n self
             → IfErr result (λ left. HasFaultFrom text left) }
-        ensures room { IfOk result (λ r. (vec_len r.blocks ≡ vec_len self.blocks + 1)
-            × (vec_capacity r.blocks ≡ vec_capacity self.blocks)) }
+        ensures ranked { IfOk result
+            (λ r. AreRanked r.blocks.masks.items r.blocks.before.items) }
+        ensures count { IfOk result
+            (λ r. vec_len r.blocks.masks ≡ vec_len self.blocks.masks + 1) }
+        ensures room { IfOk result (λ r. (bytes : ℕ)
+            → HasRoomFor bytes self.blocks → HasRoomFor bytes r.blocks) }
     {
         one_structure();
         let Reading {
@@ -87,10 +94,7 @@ impl Reading {
             return Err(rest.len() - masks.fault.trailing_zeros() as usize);
         }
         let ends = masks.sep | masks.eol;
-        blocks.push_reserved(ByteBlock {
-            ends,
-            before: widths.places,
-        });
+        blocks.push(ends, widths.places);
         widths.add(ends, masks.eol);
         let unended = (masks.eol >> (len - 1)) & 1 == 0;
         Ok(Reading {

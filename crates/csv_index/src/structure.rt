@@ -4,11 +4,12 @@ ghost use Rattle.std.specs.Str.{IsCharBoundary};
 ghost use Rattle.csv_grammar.specs.Records.{Field};
 ghost use Rattle.csv_grammar.specs.Faults.{cause_at};
 ghost use Rattle.csv_grammar.specs.Files.{malformed, text_of};
+ghost use Rattle.csv_index.specs.Blocks.{AreRanked};
 ghost use Rattle.csv_index.specs.Fault.{text_cause, IsTextFault};
 ghost use Rattle.csv_index.specs.Reading.{bytes_left, IsBlockReading};
 ghost use Rattle.csv_index.specs.Structure.{ReadsAsRecords, HasTextFault};
 
-use crate::blocks::ByteBlock;
+use crate::blocks::ByteBlocks;
 use crate::fault::TextFault;
 use crate::reading::Reading;
 use crate::widths::Widths;
@@ -19,7 +20,7 @@ use std::alloc::Global;
 /// What is known of a file that is records.
 #[derive(Drop)]
 pub struct Structure {
-    pub blocks: Vec<ByteBlock>,
+    pub blocks: ByteBlocks,
     /// The end of a last record with no line break.
     pub last: Option<usize>,
     pub widths: Widths,
@@ -34,7 +35,9 @@ impl Structure {
         requires reads { IsBlockReading (drop mark file.now) reading }
         requires over { bytes_left (drop mark file.now) reading ≡ 0 }
         ensures records { IfOk result (λ s. (records : List (List Field))
-            × ReadsAsRecords file.now mark records s.blocks.items s.last s.widths) }
+            × ReadsAsRecords file.now mark records s.blocks.masks.items s.last s.widths) }
+        ensures ranked { IfOk result
+            (λ s. AreRanked s.blocks.masks.items s.blocks.before.items) }
         ensures fault { IfErr result (λ e. HasTextFault e file.now mark) }
     {
         one_structure();
@@ -92,7 +95,7 @@ pub fn is_read(reading: &Reading, file: &[u8]) -> bool
     ensures yes { result ≡ true → bytes_left (text_of file.now) reading.now ≡ 0 }
     ensures no { result ≡ false → 0 < bytes_left (text_of file.now) reading.now }
 {
-    reading.blocks.len() >= (file.len() - mark_len(file)).div_ceil(BLOCK)
+    reading.blocks.masks.len() >= (file.len() - mark_len(file)).div_ceil(BLOCK)
 }
 
 /// Returns why a byte of the text is refused, by that byte and the one before it.

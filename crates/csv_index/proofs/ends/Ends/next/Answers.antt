@@ -13,7 +13,7 @@ returns-in_default c =
 pub loop-self-preserved : goal.loop-self-preserved
 loop-self-preserved c =
     let e = c.in-Some.ensures.cases in record {
-      left = sym (ends_next c.loop-self.self-inside.base c.loop-self.self-inside.word c.in-Some.block.now c.in-Some.rest.now c.loop-self.self-inside.last c.loop-self-test.true)
+      left = sym (ends_next c.loop-self.self-inside.base c.loop-self.self-inside.word c.in-Some.mask.now c.in-Some.rest.now c.loop-self.self-inside.last c.loop-self-test.true)
           ∙ ap (λ r. set_places c.loop-self.self-inside.base c.loop-self.self-inside.word 0 64 ++ ends_of (c.loop-self.self-inside.base + 64) r c.loop-self.self-inside.last) (sym e.0)
           ∙ c.loop-self.invariant.left;
       room = omega (arith, e.1, c.loop-self.invariant.room);

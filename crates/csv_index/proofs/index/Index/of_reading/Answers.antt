@@ -18,7 +18,7 @@ returns-in_err-structure-clause-fault c =
 pub invariant_of-result : goal.invariant_of-result
 invariant_of-result c =
     let read = c.in_ok-structure.ensures.records.1 in record {
-      ranked = read.ranked;
+      ranked = c.in_ok-structure.ensures.ranked;
       room = read.room;
       rise = rise_wide _ (length c.args.bytes.now) (2 ^ 63) _ (omega arith) read.cuts.rise;
     }

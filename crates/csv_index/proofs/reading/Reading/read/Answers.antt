@@ -11,10 +11,10 @@ use Rattle.csv_index.proofs.reading.Reading.read.Goals as goal
 
 -- the masks are those of the text's next block
 next_step : (c : After-step-carry) (text : List ℕ) (n : ℕ) → c.args.rest.now ≡ drop (64 * n) text
-    → HasReadText text n c.args.self.carry c.args.self.blocks.items c.args.self.widths c.args.self.unended → StepsTo text n c.args.len c.step-carry.result.0 c.step-carry.result.1
+    → HasReadText text n c.args.self.carry c.args.self.blocks.masks.items c.args.self.widths c.args.self.unended → StepsTo text n c.args.len c.step-carry.result.0 c.step-carry.result.1
 next_step c text n is read =
     steps_to text c.args.rest.now n c.args.len c.classify.result c.step-carry.result.0 c.args.self.carry c.step-carry.result.1
-    c.args.self.blocks.items c.args.self.widths c.args.self.unended read is c.requires.some c.requires.len
+    c.args.self.blocks.masks.items c.args.self.widths c.args.self.unended read is c.requires.some c.requires.len
     (subst (AreClasses c.classify.result) c.load.ensures c.classify.ensures)
     c.step-carry.ensures.carry c.step-carry.ensures.masks c.step-carry.ensures.within
 
@@ -34,7 +34,7 @@ add-requires-clause-within c = ends_within c.step-carry.result.0.sep c.step-carr
 
 pub returns-clause-read : goal.returns-clause-read
 returns-clause-read c = λ text n is read.
-    rw c.push_reserved.ensures.items (has_read_more c.one_structure.ensures text n c.args.len (c.args.len - 1) c.step-carry.result.0 c.args.self.carry c.step-carry.result.1
-    c.args.self.blocks.items c.args.self.widths c.add.new.self c.args.self.unended _ read
+    rw c.push.ensures.masks (has_read_more c.one_structure.ensures text n c.args.len (c.args.len - 1) c.step-carry.result.0 c.args.self.carry c.step-carry.result.1
+    c.args.self.blocks.masks.items c.args.self.widths c.add.new.self c.args.self.unended _ read
     (next_step (goal.at.returns-clause-read c).After-step-carry text n is read) c.if-masks-ne0.false c.add.ensures
     (omega (arith, c.requires.some)) (ap (λ b. b == 0) (shr_and_one c.step-carry.result.0.eol (c.args.len - 1))))
