@@ -1,7 +1,7 @@
 -- The keys of more rows are read.
-use Rattle.std.proofs.Common.{◌≡◌, ◌+◌, ◌/◌, ◌<◌, ◌≤◌, ◌^◌, ℕ, List, [], None, get_or, length, min, replicate, take, IsTrue, ◌↔◌, inl, inr, subst, sym, ap, ◌∙◌, arith}
+use Rattle.std.proofs.Common.{◌≡◌, ◌+◌, ◌<◌, ◌≤◌, ◌^◌, ℕ, List, [], None, get_or, length, min, replicate, take, Global, Vec, vec_len, ◌++◌, ◌-◌, IsTrue, ◌↔◌, inl, inr, subst, sym, ap, ◌∙◌, arith}
 use Rattle.std.proofs.lemmas.Bool.{cases_lt}
-use Rattle.std.proofs.lemmas.List.{length-map, take_all}
+use Rattle.std.proofs.lemmas.List.{length-map, length-replicate, replicate-append-replicate, take_all}
 use Rattle.cell_types.specs.Value.{CellValue, null, value_eq}
 use Rattle.key_index.specs.declared.keys.Keys.TheVariants.{Rising, Slots}
 use Rattle.key_index.specs.declared.rising.Rise.{Rise}
@@ -11,21 +11,31 @@ use Rattle.key_index.specs.Key.{null_row, repeated_row, row_key}
 use Rattle.key_index.specs.Keys.{typed_keys, typed_row, AreKeysOf}
 use Rattle.key_index.specs.Rising.{AreRising, Rises}
 use Rattle.key_index.specs.Slots.{free, free_slots}
-use Rattle.key_index.specs.Reading.{held_left, SeatsRows}
+use Rattle.key_index.specs.Reading.{held_left, slots_for, SeatsRows}
 use Rattle.key_index.proofs.RisingLemmas.{rising-distinct, rising-whole, rising_same}
 use Rattle.key_index.proofs.RowLemmas.{length-typed_keys, no_typed_keys, typed_key, typed_keys-le}
 use Rattle.key_index.proofs.SlotLemmas.{all_free, seated_same}
 use Rattle.column_blocks.specs.ColumnCells.{ColumnCells}
 
 -- ---- in slots
+-- more slots are made
+pub more_free : (old new : Vec ℕ Global) (more : ℕ) → old.items ≡ replicate (vec_len old) free → vec_len old ≤ more
+    → new.items ≡ take more old.items ++ replicate (more - vec_len old) free → new.items ≡ replicate more free
+more_free old new more are less is =
+    let size : length old.items ≡ vec_len old = ap length are ∙ length-replicate (vec_len old) free in
+    let all : vec_len old + (more - vec_len old) ≡ more = omega (arith, less) in
+    is ∙ ap (λ l. l ++ replicate (more - vec_len old) free) (take_all more old.items (omega (arith, size, less)) ∙ are)
+    ∙ replicate-append-replicate (vec_len old) (more - vec_len old) free ∙ ap (λ n. replicate n free) all
+
 -- all slots are free
-pub seats_free : (places : List ℕ) (columns : List ColumnCells) (rows count : ℕ) (seats : Seats) → count ≡ length (typed_keys places columns rows) → seats.row ≡ 0 → seats.repeated ≡ None
-    → seats.slots.items ≡ replicate (count + count / 3 + 1) free → length seats.slots.items ≡ count + count / 3 + 1 → SeatsRows places columns rows seats
-seats_free places columns rows count seats is none unknown made size =
+pub seats_free : (places : List ℕ) (columns : List ColumnCells) (rows count : ℕ) (seats : Seats) → count ≡ slots_for (length (typed_keys places columns rows)) → seats.row ≡ 0 → seats.repeated ≡ None
+    → seats.slots.items ≡ replicate count free → SeatsRows places columns rows seats
+seats_free places columns rows count seats is none unknown made =
     let keys = typed_keys places columns rows in
-    let all = ap free_slots made ∙ all_free (count + count / 3 + 1) in record {
+    let size : length seats.slots.items ≡ count = ap length made ∙ length-replicate count free in
+    let all = ap free_slots made ∙ all_free count in record {
       within = omega (arith, none);
-      long = size ∙ ap (λ n. n + n / 3 + 1) is;
+      long = size ∙ is;
       whole = ap (λ n. null_row (take n keys)) none;
       repeated = unknown ∙ sym (ap (λ n. repeated_row (take n keys)) none);
       seated = λ _ row within. absurd (omega (arith, within, none));

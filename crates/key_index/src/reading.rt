@@ -3,7 +3,7 @@ ghost use Rattle.std.specs.Prelude.{◌≡◌, ◌<◌, ◌≤◌, ◌+◌, ◌*
 ghost use Rattle.key_index.specs.Key.{null_row, row_key};
 ghost use Rattle.key_index.specs.Keys.{typed_keys, typed_row};
 ghost use Rattle.key_index.specs.Rising.{Rises};
-ghost use Rattle.key_index.specs.Reading.{keys_left, AreHeld, AreHeldBy, HoldsOn, KeysGoOn, SeatsRows};
+ghost use Rattle.key_index.specs.Reading.{keys_left, slots_for, AreHeld, AreHeldBy, HasFreeSlots, HoldsOn, KeysGoOn, SeatsRows};
 ghost use Rattle.key_index.specs.declared.reading.TheConstants.{ROWS};
 ghost use Rattle.column_blocks.specs.ColumnCells.{ColumnCells};
 
@@ -17,6 +17,9 @@ use std::alloc::{AllocError, Global};
 /// How many rows a step reads: about a millisecond's, if their keys do not rise.
 const ROWS: usize = 4096;
 
+/// How many slots a step makes: those of a MiB, in less than a millisecond.
+const SLOTS: usize = 262_144;
+
 /// Rows in slots by their keys: how many there are, and the first whose key is that of an earlier row.
 #[derive(Drop)]
 struct Seats {
@@ -29,6 +32,8 @@ struct Seats {
 #[derive(Drop)]
 enum Held {
     Rising(Rise),
+    /// They do not rise. These slots are made, all of them free, and no row is in one.
+    Free(Vec<u32>),
     Slots(Seats),
 }
 
@@ -76,19 +81,37 @@ fn key_count(places: &[usize], rows: usize) -> usize
     if places.is_empty() { 0 } else { rows }
 }
 
-/// Returns slots for `rows` rows, all of them free.
-fn free_seats(alloc: Global, places: &[usize], rows: usize) -> Result<Seats, AllocError>
+/// Returns how many slots `rows` rows take.
+fn slot_count(places: &[usize], rows: usize) -> usize
     requires few { rows ≤ 2 ^ 31 }
-    ensures seats { IfOk result (λ seats. (columns : List ColumnCells)
-        → SeatsRows places.now columns rows seats) }
-    ensures none { IfOk result (λ seats. seats.row ≡ 0) }
+    ensures count { (columns : List ColumnCells)
+        → result ≡ slots_for (length (typed_keys places.now columns rows)) }
+    ensures most { result ≤ 2 * rows + 1 }
 {
     let count = key_count(places, rows);
-    Ok(Seats {
+    count + count / 3 + 1
+}
+
+/// Makes more slots, all of them free. Once there are enough, begins to put rows in them.
+fn make_slots(places: &[usize], rows: usize, slots: Vec<u32>) -> Result<Next, AllocError>
+    requires few { rows ≤ 2 ^ 31 }
+    requires free { (columns : List ColumnCells)
+        → HasFreeSlots (length (typed_keys places.now columns rows)) slots }
+    ensures { IfOk result (λ next. (columns : List ColumnCells)
+        → HoldsOn places.now columns rows (Held.Free slots) next) }
+{
+    let count = slot_count(places, rows);
+    let mut slots = slots;
+    let more = count.min(slots.len() + SLOTS);
+    slots.resize(more, FREE)?;
+    if more < count {
+        return Ok(Next::On(Held::Free(slots)));
+    }
+    Ok(Next::On(Held::Slots(Seats {
         row: 0,
-        slots: Vec::from_elem(alloc, FREE, count + count / 3 + 1)?,
+        slots,
         repeated: None,
-    })
+    })))
 }
 
 /// Puts the next [`ROWS`] rows, or all that are left, in slots. The error is the first row whose key has a null.
@@ -158,7 +181,7 @@ fn seat_on(
     }
 }
 
-/// Reads the keys of more rows while they rise, or begins to do so by slots.
+/// Reads the keys of more rows while they rise, or begins to make slots, for which it takes room.
 fn rise_on(
     alloc: Global,
     columns: &[TypedColumn],
@@ -175,7 +198,8 @@ fn rise_on(
     cell_types::values_are_ordered();
     let end = rows.min(rise.row + ROWS);
     let Some(rise) = rises_on(columns, places, rise, end) else {
-        return Ok(Next::On(Held::Slots(free_seats(alloc, places, rows)?)));
+        let slots = Vec::with_capacity(alloc, slot_count(places, rows))?;
+        return Ok(Next::On(Held::Free(slots)));
     };
     if end < rows {
         return Ok(Next::On(Held::Rising(rise)));
@@ -198,6 +222,7 @@ fn read_on(
 {
     match held {
         Held::Rising(rise) => rise_on(alloc, columns, places, rows, rise),
+        Held::Free(slots) => make_slots(places, rows, slots),
         Held::Slots(seats) => seat_on(alloc, columns, places, rows, seats),
     }
 }
@@ -208,7 +233,7 @@ impl KeysReading {
         ensures held { (places : List ℕ) → AreHeld places result }
         ensures rows { result.rows ≡ rows }
         ensures columns { result.columns.items ≡ columns.items }
-        ensures left { keys_left result ≡ 2 * rows + 2 }
+        ensures left { keys_left result ≡ 4 * rows + 5 }
     {
         KeysReading {
             rows,

@@ -106,8 +106,9 @@ under_way_refused folder l table cause refused loads =
     (refused folder.limits.file (file_named order.0.url folder.files) order.0 order.2)
 
 -- ---- a table is begun
-few_steps : (rows : ℕ) (held : Held) → held_left rows held ≤ 2 * rows + 2
+few_steps : (rows : ℕ) (held : Held) → held_left rows held ≤ 4 * rows + 5
 few_steps rows (held_by.Rising rise) = omega arith
+few_steps rows (held_by.Free slots) = omega arith
 few_steps rows (held_by.Slots seats) = omega arith
 
 few_at : (limit : ℕ) (file : Option (List ℕ)) (schema : SchemaOf) (stage : Stage) → IsAtStage limit file schema stage → stage_left stage ≤ 2 ^ 34

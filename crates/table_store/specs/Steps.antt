@@ -99,12 +99,12 @@ ReachesStage schema old (stages.Keys keys) = ⊥
 abbrev pub RowsReadOn : SchemaOf → List (List RawField) → RowsReading → Stage → Type 0
 RowsReadOn schema rows old (stages.File new) = ⊥
 RowsReadOn schema rows old (stages.Rows new) = ReadsRows schema.columns rows new × (rows_left new < rows_left old)
-RowsReadOn schema rows old (stages.Keys keys) = ReadsKeys schema rows keys × (keys_left keys ≡ 2 * old.rows + 2)
+RowsReadOn schema rows old (stages.Keys keys) = ReadsKeys schema rows keys × (keys_left keys ≡ 4 * old.rows + 5)
 
 -- no more steps than these are left at a stage: of a file two for each row, of which it has at most 2 to the 30, and those in which their keys are read
 abbrev pub stage_left : Stage → ℕ
-stage_left (stages.File indexing) = indexing.left + (2 ^ 32 + 2 ^ 31 + 1)
-stage_left (stages.Rows reading) = rows_left reading + 2 ^ 32
+stage_left (stages.File indexing) = indexing.left + (2 ^ 33 + 2 ^ 31 + 1)
+stage_left (stages.Rows reading) = rows_left reading + 2 ^ 33
 stage_left (stages.Keys keys) = keys_left keys
 
 -- less is left at a stage, or all is read
