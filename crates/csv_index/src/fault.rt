@@ -26,6 +26,16 @@ pub enum TextFault {
     NoMemory,
 }
 
+impl From<AllocError> for TextFault {
+    ghost use Rattle.csv_index.specs.declared.fault.TextFault.TheVariants.{NoMemory};
+
+    ghost from_gives = { λ _ fault. fault ≡ NoMemory };
+
+    fn from(_: AllocError) -> TextFault {
+        TextFault::NoMemory
+    }
+}
+
 impl TextFault {
     /// Returns its name, followed by its place or row, as in `BareCr at 3`.
     pub fn text(self, alloc: Global) -> Result<String, AllocError>

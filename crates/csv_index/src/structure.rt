@@ -67,10 +67,7 @@ pub fn begin(alloc: Global, file: &[u8]) -> Result<Reading, TextFault>
     ensures reads { IfOk result (IsBlockReading (text_of file.now)) }
     ensures fault { IfErr result (IsTextFault file.now) }
 {
-    match Reading::start(alloc, &file[mark_len(file)..]) {
-        Ok(reading) => Ok(reading),
-        Err(_) => Err(TextFault::NoMemory),
-    }
+    Ok(Reading::start(alloc, &file[mark_len(file)..])?)
 }
 
 /// Reads on in a file from its mark on, at most `most` blocks. The error is the first fault.
