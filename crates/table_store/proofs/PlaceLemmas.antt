@@ -12,11 +12,3 @@ drop-from_slice_get xs i x e =
 -- and a read gives it
 pub slice_get-from_read : {X : Type 0} (xs : List X) (i : ℕ) (x : X) → i < length xs → x ≡ get_or xs i x → slice_get xs i ≡ Some x
 slice_get-from_read xs i x within e = slice_get-get_or xs i x within ∙ ap (λ y. Some y) (sym e)
-
--- one more of a list that is read in order
-pub read_more : {X Y : Type 0} (f : X → Y) (ys : List Y) (i : ℕ) (xs : List X) (x : X) → slice_get ys i ≡ Some (f x)
-    → map f xs ≡ take i ys → map f (xs ++ x ∷ []) ≡ take (i + 1) ys
-read_more f ys i xs x e so_far =
-    map_push f xs x ∙ ap (λ zs. zs ++ f x ∷ []) so_far
-    ∙ ap (λ z. take i ys ++ z ∷ []) (sym (get_or_from_slice_get ys i (f x) (f x) e))
-    ∙ sym (take_more ys i (f x) (slice_get_within ys i (f x) e))

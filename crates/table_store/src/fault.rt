@@ -55,6 +55,16 @@ pub enum LoadFault {
     NoMemory,
 }
 
+impl From<AllocError> for LoadFault {
+    ghost use Rattle.table_store.specs.declared.fault.LoadFault.TheVariants.{NoMemory};
+
+    ghost from_gives = { λ _ fault. fault ≡ NoMemory };
+
+    fn from(_: AllocError) -> LoadFault {
+        LoadFault::NoMemory
+    }
+}
+
 impl LoadFault {
     /// Returns the file that is refused and why, as in `notes.csv: Header col 1`.
     pub fn text(&self, alloc: Global) -> Result<String, AllocError>

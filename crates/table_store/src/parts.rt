@@ -7,7 +7,7 @@ use crate::table_fault::BadCell;
 use cell_types::{CellFault, Column};
 use column_blocks::ColumnReader;
 use csv_fields::{Part, cell_value};
-use std::alloc::Global;
+use std::alloc::{AllocError, Global};
 
 /// Reads the rows of a part into the readers of their columns, column after column. An error means that memory ran out, or that a cell has no value.
 fn read_columns(
@@ -98,11 +98,7 @@ pub fn read_part(
 {
     match read_columns(alloc, columns, part, readers) {
         Ok(()) => Ok(()),
-        Err(CellFault::NoMemory) => Err(BadCell {
-            row: first,
-            col: 0,
-            fault: CellFault::NoMemory,
-        }),
+        Err(CellFault::NoMemory) => Err(BadCell::from(AllocError)),
         Err(_) => Err(first_bad_cell(alloc, columns, part, first)),
     }
 }

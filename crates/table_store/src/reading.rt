@@ -52,13 +52,12 @@ fn index_step(alloc: Global, schema: &Schema, indexing: Indexing) -> Result<Stag
         Err(TextFault::NoMemory) => return Err(TableFault::NoMemory),
         Err(fault) => return Err(TableFault::Text(fault)),
     };
-    match first_mismatch(alloc, schema.columns.as_slice(), &file) {
-        Ok(None) => match RowsReading::start(alloc, schema.columns.as_slice(), file) {
-            Ok(reading) => Ok(Stage::Rows(reading)),
-            Err(_) => Err(TableFault::NoMemory),
-        },
-        Ok(Some(col)) => Err(TableFault::Header(col)),
-        Err(_) => Err(TableFault::NoMemory),
+    match first_mismatch(alloc, schema.columns.as_slice(), &file)? {
+        None => {
+            let reading = RowsReading::start(alloc, schema.columns.as_slice(), file)?;
+            Ok(Stage::Rows(reading))
+        }
+        Some(col) => Err(TableFault::Header(col)),
     }
 }
 
@@ -94,11 +93,10 @@ fn keys_step(alloc: Global, schema: &Schema, keys: KeysReading) -> Result<StageS
         → IfSome (table_cause e) (HasRowsCause (schema_view schema.now) raws)) }
     ensures memory { IfErr result (λ e. table_cause e ≡ None → e ≡ TableFault.NoMemory) }
 {
-    match keys.step(alloc, schema.key.as_slice()) {
-        Ok(KeyStep::On(keys)) => Ok(StageStep::On(Stage::Keys(keys))),
-        Ok(KeyStep::Over(rows)) => Ok(StageStep::Over(rows)),
-        Ok(KeyStep::Refused(fault)) => Err(TableFault::Key(fault)),
-        Err(_) => Err(TableFault::NoMemory),
+    match keys.step(alloc, schema.key.as_slice())? {
+        KeyStep::On(keys) => Ok(StageStep::On(Stage::Keys(keys))),
+        KeyStep::Over(rows) => Ok(StageStep::Over(rows)),
+        KeyStep::Refused(fault) => Err(TableFault::Key(fault)),
     }
 }
 

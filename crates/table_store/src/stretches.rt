@@ -25,17 +25,6 @@ const STEP: usize = 512;
 /// Columns, or the first cell of their rows, row by row, that has no value.
 pub type ReadColumns = Result<Vec<TypedColumn>, BadCell>;
 
-/// Returns that memory ran out, in the place of a cell.
-fn no_memory(row: usize) -> BadCell
-    ensures { result.fault ≡ CellFault.NoMemory }
-{
-    BadCell {
-        row,
-        col: 0,
-        fault: CellFault::NoMemory,
-    }
-}
-
 /// The last rows of a file, of which the first ones are read.
 #[derive(Drop)]
 struct Stretch {
@@ -82,11 +71,11 @@ impl Stretch {
         if row == file.rows() {
             return match columns_read(alloc, readers) {
                 Ok(read) => StretchStep::Over(Ok(read)),
-                Err(_) => StretchStep::Over(Err(no_memory(first))),
+                Err(fault) => StretchStep::Over(Err(BadCell::from(fault))),
             };
         }
         let Ok(mut parts) = file.parts(alloc, row) else {
-            return StretchStep::Over(Err(no_memory(first)));
+            return StretchStep::Over(Err(BadCell::from(AllocError)));
         };
         let end = row + STEP.min(file.rows() - row);
         while row < end {
@@ -115,9 +104,7 @@ fn append_columns(front: Vec<TypedColumn>, after: Vec<TypedColumn>) -> ReadColum
     let mut front = front;
     let mut after = after;
     while let Some(column) = after.pop() {
-        let Ok(()) = front[after.len()].append(column) else {
-            return Err(no_memory(0));
-        };
+        front[after.len()].append(column)?;
     }
     Ok(front)
 }
@@ -215,9 +202,7 @@ impl RowsReading {
             };
         }
         file.truncate(first);
-        let Ok(stretch) = Stretch::start(alloc, columns, first) else {
-            return Err(no_memory(first));
-        };
+        let stretch = Stretch::start(alloc, columns, first)?;
         Ok(RowsStep::On(RowsReading {
             file,
             rows,

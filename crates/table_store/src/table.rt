@@ -163,16 +163,14 @@ impl Table {
         ensures memory { IfErr result (λ e. e ≡ LoadFault.NoMemory) }
     {
         cell_types::values_fit_columns();
-        match summaries_of(alloc, rows.columns.as_slice(), rows.rows) {
-            Ok(summaries) => Ok(Table {
-                schema,
-                count: rows.rows,
-                columns: rows.columns,
-                keys: rows.keys,
-                summaries,
-            }),
-            Err(_) => Err(LoadFault::NoMemory),
-        }
+        let summaries = summaries_of(alloc, rows.columns.as_slice(), rows.rows)?;
+        Ok(Table {
+            schema,
+            count: rows.rows,
+            columns: rows.columns,
+            keys: rows.keys,
+            summaries,
+        })
     }
 }
 

@@ -19,41 +19,41 @@ pub step-requires-clause-held : goal.step-requires-clause-held
 step-requires-clause-held c =
     subst (λ places. AreHeld places c.args.keys) (sym c.as_slice.ensures.value) c.requires.reads.1.held
 
-pub returns-in-Ok-On-clause-goes_on : goal.returns-in-Ok-On-clause-goes_on
-returns-in-Ok-On-clause-goes_on c = λ raws reads.
+pub returns-in-On-clause-goes_on : goal.returns-in-On-clause-goes_on
+returns-in-On-clause-goes_on c = λ raws reads.
     let schema = schema_view c.args.schema.now in
-    let on = rw c.in-Ok-On.field-0-is at c.in-Ok-On.ensures in (
+    let on = rw c.in-On.is at c.in_ok-keys.ensures in (
       record {
         count = on.1 ∙ reads.count;
         wide = reads.wide;
         columns = subst (HasColumns 0 schema.columns raws) (sym on.2) reads.columns;
-        held = subst (λ places. AreHeld places c.in-Ok-On.keys) c.as_slice.ensures.value on.0;
+        held = subst (λ places. AreHeld places c.in-On.keys) c.as_slice.ensures.value on.0;
       },
       on.3,
     )
 
-pub returns-in-Ok-Over-clause-goes_on : goal.returns-in-Ok-Over-clause-goes_on
-returns-in-Ok-Over-clause-goes_on c = λ raws reads.
+pub returns-in-Over-clause-goes_on : goal.returns-in-Over-clause-goes_on
+returns-in-Over-clause-goes_on c = λ raws reads.
     let schema = schema_view c.args.schema.now in
     let old = c.args.keys in
-    let over = rw c.in-Ok-Over.field-0-is at c.in-Ok-Over.ensures in (
+    let over = rw c.in-Over.is at c.in_ok-keys.ensures in (
       reads.columns.right,
       record {
         count = over.1 ∙ reads.count;
         columns = subst (AreTyped schema.columns (rows_in schema.columns raws)) (sym over.2) reads.columns.cells;
-        keys = subst (AreKeysOf c.in-Ok-Over.rows.keys)
+        keys = subst (AreKeysOf c.in-Over.rows.keys)
             (ap (λ places. typed_keys places old.columns.items old.rows) c.as_slice.ensures.value
             ∙ keys_read schema raws old.rows old.columns.items reads.count reads.wide reads.columns.cells)
             over.0;
       },
     )
 
-pub returns-in-Ok-Refused-clause-fault : goal.returns-in-Ok-Refused-clause-fault
-returns-in-Ok-Refused-clause-fault c = λ raws reads.
+pub returns-in-Refused-clause-fault : goal.returns-in-Refused-clause-fault
+returns-in-Refused-clause-fault c = λ raws reads.
     let schema = schema_view c.args.schema.now in
     let old = c.args.keys in
-    let lacks = rw c.in-Ok-Refused.field-0-is at c.in-Ok-Refused.ensures in
-    key_fault-cause schema raws c.in-Ok-Refused.fault reads.columns.right (subst (λ of. HasKeyFault of c.in-Ok-Refused.fault)
+    let lacks = rw c.in-Refused.is at c.in_ok-keys.ensures in
+    key_fault-cause schema raws c.in-Refused.fault reads.columns.right (subst (λ of. HasKeyFault of c.in-Refused.fault)
     (ap (λ places. typed_keys places old.columns.items old.rows) c.as_slice.ensures.value
     ∙ keys_read schema raws old.rows old.columns.items reads.count reads.wide reads.columns.cells)
     lacks)

@@ -67,7 +67,7 @@ loop-column-preserved c =
                 let front = same_Some a c.index_mut.result.now (sym at ∙ ap (slice_get c.args.front.items) same ∙ next.was) in
                 let later = same_Some b c.in-Some.column (sym is ∙ ap (slice_get c.args.after.items) same ∙ next.later) in
                 ap (slice_get (set items col new)) same ∙ slice_get-set_same items col new (omega (arith, next.count, c.loop-column.invariant.few))
-                ∙ ap Some (c.in-Ok.ensures ∙ ap (λ x. joined_cells x c.in-Some.column) (sym front) ∙ ap (joined_cells a) (sym later))
+                ∙ ap Some (c.in_ok-append.ensures ∙ ap (λ x. joined_cells x c.in-Some.column) (sym front) ∙ ap (joined_cells a) (sym later))
             | inr (inl less) ↦ absurd (omega (arith, less, from, next.left))
             | inr (inr more) ↦ slice_get-set_other items col k new (λ e. absurd (omega (arith, e, more)))
                 ∙ c.loop-column.invariant.joined k a b (omega (arith, more, next.count)) at is

@@ -44,16 +44,13 @@ returns-then-first-eq0-clause-bad c =
           (all_past columns rows c.args.self c.in-Over.read (Err w.in-Err.bad) c.in-Over.ensures joined reads))
     ]
 
-pub returns-in_default-clause-bad : goal.returns-in_default-clause-bad
-returns-in_default-clause-bad c = λ rows reads. inl c.no_memory.ensures
-
 pub returns-clause-goes_on : goal.returns-clause-goes_on
 returns-clause-goes_on c = λ rows reads.
     let columns = map column_view c.args.columns.now in
     let self = c.args.self in
     let read = c.join_columns-read.result in
-    let next : RowsReading = record { file = c.truncate.new.self; rows = self.rows; stretch = c.in-Ok-start.stretch; after = Some read } in (
-      next_begun columns rows self next refl c.truncate.ensures c.in-Ok-start.ensures
+    let next : RowsReading = record { file = c.truncate.new.self; rows = self.rows; stretch = c.in_ok-stretch.stretch; after = Some read } in (
+      next_begun columns rows self next refl c.truncate.ensures c.in_ok-stretch.ensures
           (reads.stretch.whole, all_past columns rows self c.in-Over.read read c.in-Over.ensures c.join_columns-read.ensures reads) reads,
-      next_less columns rows self next c.truncate.ensures (omega arith) c.in-Ok-start.ensures reads,
+      next_less columns rows self next c.truncate.ensures (omega arith) c.in_ok-stretch.ensures reads,
     )

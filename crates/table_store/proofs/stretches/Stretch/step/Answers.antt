@@ -104,10 +104,10 @@ returns-in-Ok c =
     }
 
 pub returns-in-Err : goal.returns-in-Err
-returns-in-Err c = inl c.no_memory.ensures
+returns-in-Err c = inl c.from.ensures
 
 pub returns-in_default : goal.returns-in_default
-returns-in_default c = inl c.no_memory-in_default.ensures
+returns-in_default c = inl c.from-in_default.ensures
 
 pub loop-row-init : goal.loop-row-init
 loop-row-init c = record {

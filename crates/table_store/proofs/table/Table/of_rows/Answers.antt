@@ -36,16 +36,16 @@ invariant_of-result c =
     let table = table_of schema parts.rows parts.columns.items in
     let same = sym (parts_table schema bytes raw parts at read) in
     let columns = subst (λ (t : TableOf). AreTyped schema.columns t.rows parts.columns.items) same read.columns in
-    let by = rw c.as_slice.ensures.value at c.in-Ok.ensures in record {
+    let by = rw c.as_slice.ensures.value at c.in_ok-summaries.ensures in record {
       columns = columns;
       places = c.requires.key;
       keys = subst (λ (t : TableOf). AreKeysOf parts.keys (keys_of t)) same read.keys;
       fit = subst HasTableRows same (table-fits c.values_fit_columns.ensures schema bytes raw file.short c.requires.defaults at);
-      summaries = are_summaries table parts.columns.items parts.rows c.in-Ok.summaries.items columns (length-table schema parts.rows parts.columns.items) by;
+      summaries = are_summaries table parts.columns.items parts.rows c.in_ok-summaries.summaries.items columns (length-table schema parts.rows parts.columns.items) by;
     }
 
-pub returns-in-Ok-clause-table : goal.returns-in-Ok-clause-table
-returns-in-Ok-clause-table c = λ limit file reads.
+pub returns-clause-table : goal.returns-clause-table
+returns-clause-table c = λ limit file reads.
     let schema = schema_view c.args.schema in
     let raw = reads.2.raw in
     let at = is_table_at schema.columns reads.0 raw reads.2.is reads.2.header_matches reads.2.reads.0 in
