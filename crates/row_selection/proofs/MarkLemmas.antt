@@ -1,27 +1,13 @@
 -- The numbers whose marks are true.
 use Rattle.std.proofs.Common.{◌≡◌, ℕ, zero, suc, ◌+◌, ◌<◌, ◌≤◌, Bool, true, false, cond, List, [], ◌∷◌, ◌++◌, ◌*◌, ◌-◌, min, inl, inr, drop, length, length-drop, take, get_or, refl, sym, ap, ◌∙◌, subst, arith}
 use Rattle.std.specs.List.{All}
+use Rattle.std.proofs.Math.Seq.{take-add}
 use Rattle.std.proofs.lemmas.Bool.{cases_lt, true≢false}
-use Rattle.std.proofs.lemmas.List.{drop-take, length-take-le, take_all, take-append-drop, take-take}
+use Rattle.std.proofs.lemmas.List.{length-take-le, take_all, take_more}
 use Rattle.std.proofs.lemmas.List.Elements.{All-take}
 use Rattle.row_selection.specs.Marks.{marked_numbers}
 use Rattle.row_selection.specs.Numbers.{numbers_from}
 use Rattle.row_selection.proofs.NumberLemmas.{take-from}
-
--- one mark more
-pub marked_next : (start : ℕ) (marks : List Bool) (i : ℕ) → i < length marks
-    → marked_numbers start (take (i + 1) marks) ≡ marked_numbers start (take i marks) ++ cond (get_or marks i false) ((start + i) ∷ []) []
-marked_next start [] i less = absurd (omega (arith, less))
-marked_next start (true ∷ marks) zero less = ap (λ n. n ∷ []) (omega arith)
-marked_next start (false ∷ marks) zero less = refl
-marked_next start (true ∷ marks) (suc i) less =
-    let n : suc i + 1 ≡ suc (i + 1) = omega arith in
-    let at : suc start + i ≡ start + suc i = omega arith in
-    rw n (ap (λ ns. start ∷ ns) (marked_next (suc start) marks i (omega (arith, less)) ∙ ap (λ m. marked_numbers (suc start) (take i marks) ++ cond (get_or marks i false) (m ∷ []) []) at))
-marked_next start (false ∷ marks) (suc i) less =
-    let n : suc i + 1 ≡ suc (i + 1) = omega arith in
-    let at : suc start + i ≡ start + suc i = omega arith in
-    rw n (marked_next (suc start) marks i (omega (arith, less)) ∙ ap (λ m. marked_numbers (suc start) (take i marks) ++ cond (get_or marks i false) (m ∷ []) []) at)
 
 -- marks, and others after them
 pub marked_append : (start : ℕ) (xs ys : List Bool) → marked_numbers start (xs ++ ys) ≡ marked_numbers start xs ++ marked_numbers (start + length xs) ys
@@ -32,6 +18,18 @@ marked_append start (true ∷ xs) ys =
 marked_append start (false ∷ xs) ys =
     let at : suc start + length xs ≡ start + suc (length xs) = omega arith in
     marked_append (suc start) xs ys ∙ ap (λ k. marked_numbers (suc start) xs ++ marked_numbers k ys) at
+
+-- one mark more
+marked_one : (start : ℕ) (b : Bool) → marked_numbers start (b ∷ []) ≡ cond b (start ∷ []) []
+marked_one start true = refl
+marked_one start false = refl
+
+pub marked_next : (start : ℕ) (marks : List Bool) (i : ℕ) → i < length marks
+    → marked_numbers start (take (i + 1) marks) ≡ marked_numbers start (take i marks) ++ cond (get_or marks i false) ((start + i) ∷ []) []
+marked_next start marks i less =
+    ap (marked_numbers start) (take_more marks i false less) ∙ marked_append start (take i marks) (get_or marks i false ∷ [])
+    ∙ ap (λ k. marked_numbers start (take i marks) ++ marked_numbers (start + k) (get_or marks i false ∷ [])) (length-take-le i marks (omega arith))
+    ∙ ap (λ ns. marked_numbers start (take i marks) ++ ns) (marked_one (start + i) (get_or marks i false))
 
 -- none is true
 pub marked_none : (start : ℕ) (marks : List Bool) → ((k : ℕ) → k < length marks → get_or marks k false ≡ false) → marked_numbers start marks ≡ []
@@ -69,12 +67,6 @@ take_least xs count most len is least = elim (cases_lt most count) [
   | inr h ↦ take_all len xs (omega (arith, least, h, is)) ∙ sym (take_all most xs (omega (arith, h, is)))
 ]
 
-take_split : {X : Type 0} (xs : List X) (i n : ℕ) → take (i + n) xs ≡ take i xs ++ take n (drop i xs)
-take_split xs i n =
-    sym (take-append-drop i (take (i + n) xs))
-    ∙ ap (λ ys. ys ++ drop i (take (i + n) xs)) (take-take i (i + n) xs (omega arith))
-    ∙ ap (λ ys. take i xs ++ ys) (drop-take i n xs)
-
 -- the marks of a word, after those before it
 pub marked_word : (marks : List Bool) (w from end : ℕ) (group : List Bool) → from ≡ w * 64 → from ≤ length marks → end ≡ min (length marks) (from + 64) → group ≡ take (end - from) (drop from marks)
     → marked_numbers 0 (take ((w + 1) * 64) marks) ≡ marked_numbers 0 (take (w * 64) marks) ++ marked_numbers from group
@@ -83,7 +75,7 @@ marked_word marks w from end group at within ends is =
     let size : end - from ≡ min (length (drop from marks)) 64 = omega (arith, ends, within, length-drop from marks) in
     let front : 0 + length (take from marks) ≡ from = omega (arith, length-take-le from marks within) in
     ap (λ k. marked_numbers 0 (take k marks)) n
-    ∙ ap (marked_numbers 0) (take_split marks from 64)
+    ∙ ap (marked_numbers 0) (take-add from 64 marks)
     ∙ marked_append 0 (take from marks) (take 64 (drop from marks))
     ∙ ap (λ k. marked_numbers 0 (take from marks) ++ marked_numbers k (take 64 (drop from marks))) front
     ∙ ap (λ g. marked_numbers 0 (take from marks) ++ marked_numbers from g) (sym (take_least (drop from marks) (length (drop from marks)) 64 (end - from) refl size) ∙ sym is)
