@@ -7,6 +7,3 @@ use Rattle.std.proofs.lemmas.List.{length-map}
 pub position_or_len-map : {X Y : Type 0} (p : Y → Bool) (f : X → Y) (xs : List X) → position_or_len p (map f xs) ≡ position_or_len (λ x. p (f x)) xs
 position_or_len-map p f [] = refl
 position_or_len-map p f (x ∷ xs) = rw (position_or_len-map p f xs) refl
-
-pub position-map : {X Y : Type 0} (p : Y → Bool) (f : X → Y) (xs : List X) → position p (map f xs) ≡ position (λ x. p (f x)) xs
-position-map p f xs = rw (position_or_len-map p f xs, length-map xs f) refl

@@ -1,5 +1,6 @@
 -- Keys of one integer each that rise: one row more, the keys on each side of a row, and what such keys never are.
 use Rattle.std.proofs.Common.{◌≡◌, ◌≢◌, ℕ, ℤ, zero, suc, ◌+◌, ◌<◌, ◌≤◌, ◌<ℤ◌, Bool, false, true, List, [], ◌∷◌, length, take, get_or, None, find, IsTrue, ◌↔◌, refl, sym, ap, subst, ◌∙◌, inl, inr, arith}
+use borrow.Author.Count.{below_more as count_more}
 use Rattle.std.specs.Cmp.Lexicographic.{pointwise_decides}
 use Rattle.std.specs.List.{range_with_len}
 use Rattle.std.proofs.lemmas.Bool.{cases_lt, cases_order, false_from_ne_true}
@@ -55,34 +56,22 @@ module _ (key_at : ℕ → List CellValue) (row : ℕ) (last number : ℤ) (risi
 
   pub rising_more : AreRising key_at (row + 1)
   rising_more = record {
-    are = λ k within. elim (cases_order k row) [
-      | inl same ↦ ap key_at same ∙ is ∙ ap (λ z. integer z ∷ []) (sym here) ∙ ap (λ i. integer (key_number (key_at i)) ∷ []) (sym same)
-      | inr (inl before) ↦ rising.are k before
-      | inr (inr after) ↦ absurd (omega (arith, within, after))
-    ];
-    rise = λ a b less within. elim (cases_order b row) [
-      | inl same ↦ subst (λ i. key_number (key_at a) <ℤ key_number (key_at i)) (sym same)
-          (let under = below a (omega (arith, less, same)) in first_of (omega (arith, ints, here, more, under), grind (arith, ints, here, more, under)))
-      | inr (inl before) ↦ rising.rise a b less before
-      | inr (inr after) ↦ absurd (omega (arith, within, after))
-    ];
+    are = count_more (λ k. key_at k ≡ integer (key_number (key_at k)) ∷ []) row rising.are (is ∙ ap (λ z. integer z ∷ []) (sym here));
+    rise = λ a b less within.
+        count_more (λ i. a < i → key_number (key_at a) <ℤ key_number (key_at i)) row (λ i before above. rising.rise a i above before)
+        (λ above. let under = below a above in first_of (omega (arith, ints, here, more, under), grind (arith, ints, here, more, under))) b within less;
   }
 
   pub below_more : (k : ℕ) → k < row + 1 → number <ℤ key_number (key_at k) → ⊥
-  below_more k within over = elim (cases_order k row) [
-    | inl same ↦ let e : key_number (key_at k) ≡ number = ap (λ i. key_number (key_at i)) same ∙ here in absurd (omega (arith, ints, e, over))
-    | inr (inl before) ↦ let under = below k before in under (omega (arith, ints, over, more))
-    | inr (inr after) ↦ absurd (omega (arith, within, after))
-  ]
+  below_more =
+      count_more (λ k. number <ℤ key_number (key_at k) → ⊥) row (λ k before over. below k before (omega (arith, ints, over, more)))
+      (λ over. absurd (omega (arith, ints, here, over)))
 
 -- ---- the keys on each side of a row
 module _ (key_at : ℕ → List CellValue) (count : ℕ) (rising : AreRising key_at count) (number : ℤ) (middle : ℕ) where
   pub below_middle : middle < count → key_number (key_at middle) <ℤ number → (row : ℕ) → row < middle + 1 → key_number (key_at row) <ℤ number
-  below_middle within under row less = elim (cases_order row middle) [
-    | inl same ↦ subst (λ i. key_number (key_at i) <ℤ number) (sym same) under
-    | inr (inl before) ↦ let rise = rising.rise row middle before within in omega (arith, ints, rise, under)
-    | inr (inr after) ↦ absurd (omega (arith, less, after))
-  ]
+  below_middle within under =
+      count_more (λ i. key_number (key_at i) <ℤ number) middle (λ i before. let rise = rising.rise i middle before within in omega (arith, ints, rise, under)) under
 
   pub above_middle : number <ℤ key_number (key_at middle) → (row : ℕ) → middle ≤ row → row < count → number <ℤ key_number (key_at row)
   above_middle over row from within = elim (cases_order row middle) [

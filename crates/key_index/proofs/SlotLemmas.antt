@@ -1,5 +1,6 @@
 -- Slots: what is reached from one on, and what a row that is put in a free slot changes.
 use Rattle.std.proofs.Common.{◌≡◌, ◌≢◌, ℕ, ◌+◌, ◌-◌, ◌*◌, ◌%◌, ◌^◌, ◌<◌, ◌≤◌, ◌==◌, true, false, cond, nat_lt, List, length, get_or, replicate, set, refl, sym, ap, subst, ◌∙◌, inl, inr, arith}
+use borrow.Author.Count.{below_more}
 use Rattle.std.proofs.lemmas.Bool.{cases_eq, cases_lt, cases_order, cond-false, ne_eqb}
 use Rattle.std.proofs.lemmas.Bool.Decides.{nat_tests}
 use Rattle.std.proofs.lemmas.List.{length-set, get_or_default, get_or-set_same, get_or-set_other}
@@ -14,39 +15,19 @@ use Rattle.key_index.specs.Slots.{free, first_slot, free_slots, raise_of, share_
 
 -- ---- places, counted on after the last slot
 pub index_before : (n p : ℕ) → p < n → slot_index n p ≡ p
-index_before n p less = let inside : nat_lt p n ≡ true = grind (arith, nat_tests) in rw inside refl
+index_before n p less = grind (arith, nat_tests)
 
 pub index_after : (n p : ℕ) → n ≤ p → slot_index n p ≡ p - n
-index_after n p more = let outside : nat_lt p n ≡ false = grind (arith, nat_tests) in rw outside refl
+index_after n p more = grind (arith, nat_tests)
 
 pub index_within : (n p : ℕ) → p < n + n → slot_index n p < n
-index_within n p within =
-    elim (cases_lt p n) [
-      | inl before ↦ omega (arith, before, index_before n p before)
-      | inr after ↦ omega (arith, after, within, index_after n p after)
-    ]
+index_within n p within = grind (arith, nat_tests)
 
 pub index_next : (n p at : ℕ) → at ≡ slot_index n p → at + 1 ≢ n → p + 1 < n + n → at + 1 ≡ slot_index n (p + 1)
-index_next n p at is other within =
-    elim (cases_lt p n) [
-      | inl before ↦
-          let here : at ≡ p = is ∙ index_before n p before in
-          omega (arith, here, index_before n (p + 1) (omega (arith, here, before, other)))
-      | inr after ↦
-          let here : at ≡ p - n = is ∙ index_after n p after in
-          omega (arith, here, after, index_after n (p + 1) (omega (arith, after)))
-    ]
+index_next n p at is other within = grind (arith, nat_tests)
 
 pub index_again : (n p at : ℕ) → at ≡ slot_index n p → at + 1 ≡ n → p + 1 < n + n → 0 ≡ slot_index n (p + 1)
-index_again n p at is last within =
-    elim (cases_lt p n) [
-      | inl before ↦
-          let here : at ≡ p = is ∙ index_before n p before in
-          omega (arith, here, last, index_after n (p + 1) (omega (arith, here, last)))
-      | inr after ↦
-          let here : at ≡ p - n = is ∙ index_after n p after in
-          absurd (omega (arith, here, after, last, within))
-    ]
+index_again n p at is last within = grind (arith, nat_tests)
 
 -- ---- a look at one slot more
 -- the slots that were looked at hold no row with the key
@@ -58,16 +39,9 @@ module _ (slots : List ℕ) (first raise count : ℕ) (key_at : ℕ → List Cel
   pub looked_more : (place : ℕ) → HaveLooked slots first raise count key_at key place → slot_at slots place ≢ free
       → ((row : ℕ) → row < count → slot_at slots place ≡ raise + row → key ≢ key_at row) → HaveLooked slots first raise count key_at key (place + 1)
   looked_more place looked full other = record {
-    taken = λ p from to. elim (cases_order p place) [
-      | inl same ↦ subst (λ i. slot_at slots i ≢ free) (sym same) full
-      | inr (inl before) ↦ looked.taken p from before
-      | inr (inr after) ↦ absurd (omega (arith, to, after))
-    ];
-    unlike = λ p row from to within holds. elim (cases_order p place) [
-      | inl same ↦ other row within (ap (slot_at slots) (sym same) ∙ holds)
-      | inr (inl before) ↦ looked.unlike p row from before within holds
-      | inr (inr after) ↦ absurd (omega (arith, to, after))
-    ];
+    taken = λ p from to. below_more (λ i. first ≤ i → slot_at slots i ≢ free) place (λ i less at. looked.taken i at less) (λ _. full) p to from;
+    unlike = λ p row from to.
+        below_more (λ i. first ≤ i → (r : ℕ) → r < count → slot_at slots i ≡ raise + r → key ≢ key_at r) place (λ i less at r. looked.unlike i r at less) (λ _. other) p to from row;
   }
 
   -- at a free slot no row is left that has the key

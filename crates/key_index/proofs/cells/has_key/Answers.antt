@@ -1,5 +1,6 @@
-use Rattle.std.proofs.Common.{◌≡◌, ◌<◌, ℕ, true, false, true≢false, get_or, length, map, sym, ap, ◌∙◌, inl, inr, arith}
-use Rattle.std.proofs.lemmas.Bool.{cases_order, not-false, not-true}
+use Rattle.std.proofs.Common.{◌≡◌, ◌<◌, ℕ, true, false, true≢false, get_or, length, map, sym, ap, ◌∙◌, arith}
+use borrow.Author.Count.{below_more}
+use Rattle.std.proofs.lemmas.Bool.{not-false, not-true}
 use Rattle.std.proofs.lemmas.List.{ext_get_or, get_or-map, length-map}
 use Rattle.cell_types.specs.Value.{CellValue, null, value_eq, value_view}
 use Rattle.key_index.specs.Key.{row_key}
@@ -41,11 +42,7 @@ loop-i-preserved c =
     let like : value_eq (value_view mine) (value_view other) ≡ true = sym (c.values_compare_as_their_views.ensures.equal mine other) ∙ not-false _ (sym c.ne.ensures ∙ c.if-ne.false) in
     let equal = one ∙ (c.values_are_ordered.ensures.equal (value_view mine) (value_view other)).0 like ∙ sym two in record {
       long = c.loop-i.invariant.long;
-      same = λ k less. elim (cases_order k i) [
-        | inl here ↦ ap (λ j. get_or (map value_view key) j null) here ∙ equal ∙ ap (λ j. get_or (row_key places (typed_row c.args.row c.args.columns.now)) j null) (sym here)
-        | inr (inl before) ↦ c.loop-i.invariant.same k before
-        | inr (inr after) ↦ absurd (omega (arith, less, after))
-      ];
+      same = below_more (λ k. get_or (map value_view key) k null ≡ get_or (row_key places (typed_row c.args.row c.args.columns.now)) k null) i c.loop-i.invariant.same equal;
     }
 
 pub returns-clause-yes : goal.returns-clause-yes

@@ -39,60 +39,43 @@ loop-row-preserved c =
     let at : (r : ℕ) → r < length keys → get_or keys r [] ≡ key_at r = typed_key places columns c.args.rows in
     let key_is : map value_view c.as_slice.result.now ≡ get_or keys row [] = ap (map value_view) c.as_slice.ensures.value ∙ c.in_ok-write_key.ensures ∙ sym (at row within) in
     let none : c.is_none.result ≡ true → c.loop-row.repeated ≡ None = none_when c.loop-row.repeated c.is_none.result c.is_none.ensures in
-    let first : c.is_none.result ≡ true → None ≡ repeated_row (take row keys) = λ e. sym (none e) ∙ c.loop-row.invariant.repeated in record {
-      within = omega (arith, within);
-      whole = whole_more equal keys row within c.loop-row.invariant.whole (ap has_null (sym key_is) ∙ sym c.has_null.ensures ∙ c.if-has_null.false);
-      long = elim c.if-is_none.branch [
-        | then-is_none+then-not-seat w ↦
-            let items = ap items_of w.slots-is ∙ with_items_is c.loop-row.slots w.seat.new.slots (w.seat.ensures.length ∙ w.as_mut_slice.ensures.len) in
-            ap length items ∙ w.seat.ensures.length ∙ ap length w.as_mut_slice.ensures.value ∙ c.loop-row.invariant.long
-        | else-is_none w ↦ ap (λ s. length (items_of s)) w.slots-is ∙ elim w.else-is_none.branch [
-          | else-is_none-via-then-is_none+else-not-seat v ↦
-              let items = ap items_of v.slots-is ∙ with_items_is c.loop-row.slots v.seat.new.slots (v.seat.ensures.length ∙ v.as_mut_slice.ensures.len) in
-              ap length items ∙ v.seat.ensures.length ∙ ap length v.as_mut_slice.ensures.value ∙ c.loop-row.invariant.long
-          | else-is_none-via-else-is_none v ↦ ap (λ s. length (items_of s)) v.slots-is ∙ c.loop-row.invariant.long
-        ]
-      ];
-      repeated = elim c.if-is_none.branch [
-        | then-is_none+then-not-seat w ↦
-            let again = w.seat.ensures.again w.if-not-seat.true in
-            w.repeated-is ∙ repeated_here equal keys row within (first w.if-is_none.true) again.0 again.1
-            (sym key_is ∙ ap (map value_view) (c.as_slice.ensures.value ∙ sym w.as_slice-then-is_none.ensures.value) ∙ again.2 ∙ sym (at again.0 (omega (arith, again.1, within))))
-        | else-is_none w ↦ w.repeated-is ∙ elim w.else-is_none.branch [
-          | else-is_none-via-then-is_none+else-not-seat v ↦
-              none v.if-is_none.true ∙ not_repeated equal keys row within (first v.if-is_none.true)
-              (λ r less same. v.seat.ensures.new v.if-not-seat.false r less
-              (ap (map value_view) (v.as_slice-then-is_none.ensures.value ∙ sym c.as_slice.ensures.value) ∙ key_is ∙ same ∙ at r (omega (arith, less, within))))
-          | else-is_none-via-else-is_none v ↦
-              let found = some_when c.loop-row.repeated c.is_none.result c.is_none.ensures v.if-is_none.false in
-              found.1 ∙ still_repeated equal keys row within found.0 (sym found.1 ∙ c.loop-row.invariant.repeated)
-        ]
-      ];
-      seated = λ e. elim c.if-is_none.branch [
-        | then-is_none+then-not-seat w ↦ absurd (let n : Some row ≡ None = sym w.repeated-is ∙ e in cc)
-        | else-is_none w ↦ elim w.else-is_none.branch [
-          | else-is_none-via-then-is_none+else-not-seat v ↦
-              let items = ap items_of w.slots-is ∙ ap items_of v.slots-is
-              ∙ with_items_is c.loop-row.slots v.seat.new.slots (v.seat.ensures.length ∙ v.as_mut_slice.ensures.len) in
-              subst (λ s. AreSeated key_at s (row + 1)) (sym items) (v.seat.ensures.seated v.if-not-seat.false)
-          | else-is_none-via-else-is_none v ↦
-              let found = some_when c.loop-row.repeated c.is_none.result c.is_none.ensures v.if-is_none.false in
-              absurd (let n : Some found.0 ≡ None = sym found.1 ∙ sym w.repeated-is ∙ e in cc)
-        ]
-      ];
-      room = λ e. elim c.if-is_none.branch [
-        | then-is_none+then-not-seat w ↦ absurd (let n : Some row ≡ None = sym w.repeated-is ∙ e in cc)
-        | else-is_none w ↦ elim w.else-is_none.branch [
-          | else-is_none-via-then-is_none+else-not-seat v ↦
-              let items = ap items_of w.slots-is ∙ ap items_of v.slots-is
-              ∙ with_items_is c.loop-row.slots v.seat.new.slots (v.seat.ensures.length ∙ v.as_mut_slice.ensures.len) in
-              subst (λ s. row + 1 + free_slots s ≡ length s) (sym items) (v.seat.ensures.room v.if-not-seat.false)
-          | else-is_none-via-else-is_none v ↦
-              let found = some_when c.loop-row.repeated c.is_none.result c.is_none.ensures v.if-is_none.false in
-              absurd (let n : Some found.0 ≡ None = sym found.1 ∙ sym w.repeated-is ∙ e in cc)
-        ]
-      ];
-    }
+    let first : c.is_none.result ≡ true → None ≡ repeated_row (take row keys) = λ e. sym (none e) ∙ c.loop-row.invariant.repeated in
+    let whole = whole_more equal keys row within c.loop-row.invariant.whole (ap has_null (sym key_is) ∙ sym c.has_null.ensures ∙ c.if-has_null.false) in
+    elim c.if-is_none.branch [
+      | then-is_none+then-not-seat w ↦
+          let items = ap items_of w.slots-is ∙ with_items_is c.loop-row.slots w.seat.new.slots (w.seat.ensures.length ∙ w.as_mut_slice.ensures.len) in
+          let again = w.seat.ensures.again w.if-not-seat.true in record {
+            within = omega (arith, within);
+            long = ap length items ∙ w.seat.ensures.length ∙ ap length w.as_mut_slice.ensures.value ∙ c.loop-row.invariant.long;
+            whole = whole;
+            repeated = w.repeated-is ∙ repeated_here equal keys row within (first w.if-is_none.true) again.0 again.1
+                (sym key_is ∙ ap (map value_view) (c.as_slice.ensures.value ∙ sym w.as_slice-then-is_none.ensures.value) ∙ again.2 ∙ sym (at again.0 (omega (arith, again.1, within))));
+            seated = λ e. absurd (cc (w.repeated-is, e));
+            room = λ e. absurd (cc (w.repeated-is, e));
+          }
+      | else-is_none w ↦ elim w.else-is_none.branch [
+        | else-is_none-via-then-is_none+else-not-seat v ↦
+            let items = ap items_of (w.slots-is ∙ v.slots-is) ∙ with_items_is c.loop-row.slots v.seat.new.slots (v.seat.ensures.length ∙ v.as_mut_slice.ensures.len) in record {
+              within = omega (arith, within);
+              long = ap length items ∙ v.seat.ensures.length ∙ ap length v.as_mut_slice.ensures.value ∙ c.loop-row.invariant.long;
+              whole = whole;
+              repeated = w.repeated-is ∙ none v.if-is_none.true ∙ not_repeated equal keys row within (first v.if-is_none.true)
+                  (λ r less same. v.seat.ensures.new v.if-not-seat.false r less
+                  (ap (map value_view) (v.as_slice-then-is_none.ensures.value ∙ sym c.as_slice.ensures.value) ∙ key_is ∙ same ∙ at r (omega (arith, less, within))));
+              seated = λ _. subst (λ s. AreSeated key_at s (row + 1)) (sym items) (v.seat.ensures.seated v.if-not-seat.false);
+              room = λ _. subst (λ s. row + 1 + free_slots s ≡ length s) (sym items) (v.seat.ensures.room v.if-not-seat.false);
+            }
+        | else-is_none-via-else-is_none v ↦
+            let found = some_when c.loop-row.repeated c.is_none.result c.is_none.ensures v.if-is_none.false in record {
+              within = omega (arith, within);
+              long = ap (λ s. length (items_of s)) (w.slots-is ∙ v.slots-is) ∙ c.loop-row.invariant.long;
+              whole = whole;
+              repeated = w.repeated-is ∙ found.1 ∙ still_repeated equal keys row within found.0 (sym found.1 ∙ c.loop-row.invariant.repeated);
+              seated = λ e. absurd (cc (found.1, w.repeated-is, e));
+              room = λ e. absurd (cc (found.1, w.repeated-is, e));
+            }
+      ]
+    ]
 
 pub seat-requires-clause-few : goal.seat-requires-clause-few
 seat-requires-clause-few c =
