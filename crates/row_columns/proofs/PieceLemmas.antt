@@ -22,7 +22,7 @@ use Rattle.column_blocks.specs.ColumnCells.{ColumnCells}
 use Rattle.column_blocks.specs.TypedColumn.{cells_of_texts, typed_cells}
 use Rattle.row_columns.specs.Picked.{values_at}
 use Rattle.row_columns.specs.Piece.{no_cells, piece_at, piece_row, HasTextsAlone, HaveTextsAlone}
-use Rattle.row_columns.specs.Text.{text_of_cell, IsNoText}
+use Rattle.row_columns.specs.Text.{IsNoText}
 
 -- ---- columns of a block that are shared
 
@@ -107,24 +107,7 @@ shared_alone block (p ∷ places) [] fit are = absurd are
 shared_alone block (p ∷ places) (c ∷ columns) fit are =
     (column_alone (slice_get block.schema.columns p) block.schema.columns p block.rows c refl fit.each are.0, shared_alone block places columns fit are.1)
 
--- ---- the text of a cell
-
-no_text_is : (v : CellValue) → IsNoText v → text_of_cell v ≡ None
-no_text_is null h = refl
-no_text_is (integer n) h = refl
-no_text_is (text t) h = absurd h
-no_text_is (boolean b) h = refl
-no_text_is (date y m d) h = refl
-no_text_is (decimal n) h = refl
-
-no_text_at : (cells : List CellValue) (row : ℕ) → AllByRecursion IsNoText cells → text_of_cell (get_or cells row null) ≡ None
-no_text_at [] row all = refl
-no_text_at (cell ∷ cells) zero all = no_text_is cell all.0
-no_text_at (cell ∷ cells) (suc row) all = no_text_at cells row all.1
-
-pub number_cell : (kind : ColumnKind) (cells : List CellValue) (row : ℕ) → HasTextsAlone kind cells → cells_of_texts kind cells ≡ None → text_of_cell (get_or cells row null) ≡ None
-number_cell Text cells row alone e = absurd (cc)
-number_cell (Number t) cells row alone e = no_text_at cells row alone
+-- ---- the texts of a column
 
 pub text_cells : (kind : ColumnKind) (cells texts : List CellValue) → cells_of_texts kind cells ≡ Some texts → texts ≡ cells
 text_cells Text cells texts e = sym (same_Some cells texts e)

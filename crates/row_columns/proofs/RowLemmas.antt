@@ -4,7 +4,7 @@ use Rattle.std.specs.Prelude.{option_and_then, slice_get}
 use Rattle.std.specs.List.{All, AllByRecursion}
 use Rattle.std.proofs.lemmas.List.{get_or-map, get_or_append_left, get_or_push, length-append, length-map, length_push, map-append}
 use Rattle.std.proofs.lemmas.List.Elements.{All-from_recursion}
-use Rattle.std.proofs.lemmas.Option.{get_or_from_slice_get, slice_get-get_or}
+use Rattle.std.proofs.lemmas.Option.{get_or_from_slice_get}
 use Rattle.block_summary.specs.declared.block.TheConstants.{BLOCK_ROWS}
 use Rattle.cell_types.specs.declared.kind.ColumnKind.{ColumnKind}
 use Rattle.cell_types.proofs.ListLaws.{AllByRecursion-weaker}
@@ -64,9 +64,8 @@ pub rows_renumbered : (row : ℕ → List CellValue) (numbers places : List ℕ)
     → map row (map (λ place. get_or numbers place 0) places) ≡ numbered places (map row numbers)
 rows_renumbered row numbers [] within = refl
 rows_renumbered row numbers (place ∷ places) within =
-    let none : List CellValue = [] in
-    ap (λ r. r ∷ map row (map (λ place. get_or numbers place 0) places)) (sym (get_or-map row numbers place 0 none (within 0 0 (omega arith))))
-    ∙ ap (λ rs. get_or (map row numbers) place none ∷ rs) (rows_renumbered row numbers places (λ k d h. within (suc k) d (omega (arith, h))))
+    ap (λ r. r ∷ map row (map (λ place. get_or numbers place 0) places)) (sym (get_or-map row numbers place 0 [] (within 0 0 (omega arith))))
+    ∙ ap (λ rs. get_or (map row numbers) place [] ∷ rs) (rows_renumbered row numbers places (λ k d h. within (suc k) d (omega (arith, h))))
 
 -- some columns of them
 pub rows_picked : (places : List ℕ) (old new : Store) (numbers : List ℕ) → IsPicked places old new → AllByRecursion (λ n. n < end_of old) numbers
@@ -83,35 +82,21 @@ pub row_wide : (store : Store) (numbers : List ℕ) → IsStoredWide store → A
 row_wide store [] wide all = tt
 row_wide store (n ∷ numbers) wide all = (stored_wide store n wide all.0, row_wide store numbers wide all.1)
 
-pub value_at_row : (store : Store) (numbers : List ℕ) (row col : ℕ) (value : CellValue) → IsStoredWide store → AllByRecursion (λ n. n < end_of store) numbers → row < length numbers
-    → col < length (stored_kinds store) → value ≡ get_or (stored_row store (get_or numbers row 0)) col null
-    → option_and_then (λ (values : List CellValue). slice_get values col) (slice_get (map (stored_row store) numbers) row) ≡ Some value
-value_at_row store numbers row col value wide all h inside is =
-    let none : List CellValue = [] in
-    let number = get_or numbers row 0 in
-    let rows = map (stored_row store) numbers in
-    let at : get_or rows row none ≡ stored_row store number = get_or-map (stored_row store) numbers row 0 none h in
-    let width = stored_wide store number wide (All-from_recursion (λ n. n < end_of store) numbers all row 0 h) in
-    ap (option_and_then (λ (values : List CellValue). slice_get values col)) (slice_get-get_or rows row none (omega (arith, h, length-map numbers (stored_row store))) ∙ ap (λ r. Some r) at)
-    ∙ slice_get-get_or (stored_row store number) col null (omega (arith, inside, width)) ∙ ap (λ v. Some v) (sym is)
-
 -- ---- rows of one piece more
 
 pub old_row : (pieces : List (List ColumnCells)) (piece : List ColumnCells) (number : ℕ) → number / BLOCK_ROWS < length pieces
     → numbered_row (pieces ++ piece ∷ []) number ≡ numbered_row pieces number
 old_row pieces piece number h =
-    let none : List ColumnCells = [] in
-    ap (λ (p : List ColumnCells). piece_row p (number % BLOCK_ROWS)) (get_or_append_left pieces (piece ∷ []) none (number / BLOCK_ROWS) h)
+    ap (λ (p : List ColumnCells). piece_row p (number % BLOCK_ROWS)) (get_or_append_left pieces (piece ∷ []) [] (number / BLOCK_ROWS) h)
 
 pub new_row : (pieces : List (List ColumnCells)) (piece : List ColumnCells) (row : ℕ) → row < BLOCK_ROWS
     → numbered_row (pieces ++ piece ∷ []) (length pieces * BLOCK_ROWS + row) ≡ piece_row piece row
 new_row pieces piece row h =
-    let none : List ColumnCells = [] in
     let number = length pieces * BLOCK_ROWS + row in
     let block : number / BLOCK_ROWS ≡ length pieces = omega (arith, h) in
     let own : number % BLOCK_ROWS ≡ row = omega (arith, h) in
-    ap (λ n. piece_row (get_or (pieces ++ piece ∷ []) n none) (number % BLOCK_ROWS)) block
-    ∙ ap (λ (p : List ColumnCells). piece_row p (number % BLOCK_ROWS)) (get_or_push pieces piece none (length pieces) refl)
+    ap (λ n. piece_row (get_or (pieces ++ piece ∷ []) n []) (number % BLOCK_ROWS)) block
+    ∙ ap (λ (p : List ColumnCells). piece_row p (number % BLOCK_ROWS)) (get_or_push pieces piece [] (length pieces) refl)
     ∙ ap (piece_row piece) own
 
 pub new_rows : (pieces : List (List ColumnCells)) (piece : List ColumnCells) (rows : List (List CellValue)) (places numbers : List ℕ) → length rows ≤ BLOCK_ROWS
@@ -120,9 +105,8 @@ pub new_rows : (pieces : List (List ColumnCells)) (piece : List ColumnCells) (ro
 new_rows pieces piece rows places [] most is within = refl
 new_rows pieces piece rows places (n ∷ numbers) most is within =
     let here : n < length rows = within 0 n (omega arith) in
-    let none : List CellValue = [] in
     ap (λ r. r ∷ map (numbered_row (pieces ++ piece ∷ [])) (map (λ n. length pieces * BLOCK_ROWS + n) numbers)) (new_row pieces piece n (omega (arith, here, most)) ∙ is n here)
-    ∙ ap (λ rs. values_at places (get_or rows n none) ∷ rs) (new_rows pieces piece rows places numbers most is (λ k d h. within (suc k) d (omega (arith, h))))
+    ∙ ap (λ rs. values_at places (get_or rows n []) ∷ rs) (new_rows pieces piece rows places numbers most is (λ k d h. within (suc k) d (omega (arith, h))))
 
 pub new_within : (count : ℕ) (rows : List (List CellValue)) (numbers : List ℕ) → length rows ≤ BLOCK_ROWS → All (λ n. n < length rows) numbers
     → AllByRecursion (λ n. n < (count + 1) * BLOCK_ROWS) (map (λ n. count * BLOCK_ROWS + n) numbers)
@@ -153,8 +137,7 @@ pub cell_is : (rows : List (List CellValue)) (row col : ℕ) (v : CellValue) →
     → v ≡ get_or (get_or rows row []) col null
 cell_is rows row col v e =
     let here = cell_of (slice_get rows row) col v e in
-    let none : List CellValue = [] in
-    sym (ap (λ vs. get_or vs col null) (get_or_from_slice_get rows row here.0 none here.1) ∙ get_or_from_slice_get here.0 col v null here.2)
+    sym (ap (λ vs. get_or vs col null) (get_or_from_slice_get rows row here.0 [] here.1) ∙ get_or_from_slice_get here.0 col v null here.2)
 
 -- ---- the rows of a table
 
@@ -168,8 +151,8 @@ pub numbered_wide : (columns : List ColumnOf) (rows : List (List CellValue)) (nu
     → AllByRecursion (λ (row : List CellValue). length row ≡ length columns) (numbered numbers rows)
 numbered_wide columns rows [] all within = tt
 numbered_wide columns rows (n ∷ numbers) all within =
-    let none : List CellValue = [] in (
-      table_row_long columns (get_or rows n none) (all n none (within 0 0 (omega arith))),
+    (
+      table_row_long columns (get_or rows n []) (all n [] (within 0 0 (omega arith))),
       numbered_wide columns rows numbers all (λ k d h. within (suc k) d (omega (arith, h))),
     )
 
@@ -199,7 +182,6 @@ pub values_taken : (width : ℕ) (rows new : Vec (Vec Value Global) Global) (tak
     → value_rows new.items ≡ value_rows rows.items ++ taken → AllByRecursion (λ (r : List CellValue). length r ≡ width) taken → IsStoredWide (Values width rows)
     → made ≡ numbers_from (length rows.items) (length taken) → HasTakenRows (Values width rows) (Values width new) taken made
 values_taken width rows new taken made e long wide made_is =
-    let none : List CellValue = [] in
     let many : length (value_rows rows.items) ≡ length rows.items = length-map rows.items (λ (r : Vec Value Global). map value_view r.items) in
     let all : length (value_rows new.items) ≡ length new.items = length-map new.items (λ (r : Vec Value Global). map value_view r.items) in
     let size : length new.items ≡ length rows.items + length taken =
@@ -208,11 +190,11 @@ values_taken width rows new taken made e long wide made_is =
       kinds = refl;
       wide = subst (AllByRecursion (λ (r : List CellValue). length r ≡ width)) (sym e) (all_append (λ (r : List CellValue). length r ≡ width) (value_rows rows.items) taken wide long);
       end = omega (arith, size);
-      stay = λ n h. ap (λ (rs : List (List CellValue)). get_or rs n none) e ∙ get_or_append_left (value_rows rows.items) taken none n (omega (arith, h, many));
+      stay = λ n h. ap (λ (rs : List (List CellValue)). get_or rs n []) e ∙ get_or_append_left (value_rows rows.items) taken [] n (omega (arith, h, many));
       within = subst (AllByRecursion (λ n. n < length new.items)) (sym made_is) (all_from (length rows.items) (length taken) (length new.items) (omega (arith, size)));
-      come = ap (map (λ n. get_or (value_rows new.items) n none)) (made_is ∙ ap (λ k. numbers_from k (length taken)) (sym many))
-          ∙ ap (λ (rs : List (List CellValue)). map (λ n. get_or rs n none) (numbers_from (length (value_rows rows.items)) (length taken))) e
-          ∙ map_from (value_rows rows.items) taken none;
+      come = ap (map (λ n. get_or (value_rows new.items) n [])) (made_is ∙ ap (λ k. numbers_from k (length taken)) (sym many))
+          ∙ ap (λ (rs : List (List CellValue)). map (λ n. get_or rs n []) (numbers_from (length (value_rows rows.items)) (length taken))) e
+          ∙ map_from (value_rows rows.items) taken [];
     }
 
 -- the rows that stayed, and those that came

@@ -49,8 +49,7 @@ kind_at_more columns places i column made kind h within at is so_far =
 pub row_of_piece : (pieces : List (List ColumnCells)) (number : ℕ) (piece : List ColumnCells) → number / BLOCK_ROWS < length pieces → piece ≡ get_or pieces (number / BLOCK_ROWS) piece
     → piece_row piece (number % BLOCK_ROWS) ≡ numbered_row pieces number
 row_of_piece pieces number piece h at =
-    let none : List ColumnCells = [] in
-    ap (λ (p : List ColumnCells). piece_row p (number % BLOCK_ROWS)) (get_or_read pieces (number / BLOCK_ROWS) piece h at none)
+    ap (λ (p : List ColumnCells). piece_row p (number % BLOCK_ROWS)) (get_or_read pieces (number / BLOCK_ROWS) piece h at [])
 
 pub piece_wide : (pieces : List (List ColumnCells)) (width number : ℕ) (piece : List ColumnCells) → AllByRecursion (λ (p : List ColumnCells). length p ≡ width) pieces
     → number < length pieces → piece ≡ get_or pieces number piece → length piece ≡ width
@@ -60,16 +59,14 @@ piece_wide pieces width number piece wide h at =
 pub row_of_values : (rows : List (Vec Value Global)) (number : ℕ) (row : Vec Value Global) → number < length rows → row ≡ get_or rows number row
     → map value_view row.items ≡ get_or (value_rows rows) number []
 row_of_values rows number row h at =
-    let none : List CellValue = [] in
-    ap (λ (r : Vec Value Global). map value_view r.items) at ∙ sym (get_or-map (λ (r : Vec Value Global). map value_view r.items) rows number row none h)
+    ap (λ (r : Vec Value Global). map value_view r.items) at ∙ sym (get_or-map (λ (r : Vec Value Global). map value_view r.items) rows number row [] h)
 
 pub row_long : (width : ℕ) (rows : List (Vec Value Global)) (number : ℕ) (row : Vec Value Global) → AllByRecursion (λ (r : List CellValue). length r ≡ width) (value_rows rows)
     → number < length rows → row ≡ get_or rows number row → length row.items ≡ width
 row_long width rows number row wide h at =
-    let none : List CellValue = [] in
     let inside : number < length (value_rows rows) = omega (arith, h, length-map rows (λ (r : Vec Value Global). map value_view r.items)) in
     sym (length-map row.items value_view) ∙ ap (λ (r : List CellValue). length r) (row_of_values rows number row h at)
-    ∙ All-from_recursion (λ (r : List CellValue). length r ≡ width) (value_rows rows) wide number none inside
+    ∙ All-from_recursion (λ (r : List CellValue). length r ≡ width) (value_rows rows) wide number [] inside
 
 -- a value of a row
 module _ (store : Store) (number col : ℕ) (less : number < end_of store) where
@@ -94,16 +91,14 @@ some_there (suc n) e = omega arith
 -- each row is as wide as there are columns
 pub stored_wide : (store : Store) (number : ℕ) → IsStoredWide store → number < end_of store → length (stored_row store number) ≡ length (stored_kinds store)
 stored_wide (Blocks kinds pieces) number wide h =
-    let none : List ColumnCells = [] in
     let inside : number / BLOCK_ROWS < length pieces.items = omega (arith, h) in
-    let piece = get_or pieces.items (number / BLOCK_ROWS) none in
+    let piece = get_or pieces.items (number / BLOCK_ROWS) [] in
     length-map piece (λ (c : ColumnCells). get_or c.cells (number % BLOCK_ROWS) null)
-    ∙ All-from_recursion (λ (p : List ColumnCells). length p ≡ length kinds.items) pieces.items wide (number / BLOCK_ROWS) none inside
+    ∙ All-from_recursion (λ (p : List ColumnCells). length p ≡ length kinds.items) pieces.items wide (number / BLOCK_ROWS) [] inside
     ∙ sym (length-map kinds.items of_kind)
 stored_wide (Values width rows) number wide h =
-    let none : List CellValue = [] in
     let inside : number < length (value_rows rows.items) = omega (arith, h, length-map rows.items (λ (r : Vec Value Global). map value_view r.items)) in
-    All-from_recursion (λ (r : List CellValue). length r ≡ width) (value_rows rows.items) wide number none inside ∙ sym (length-replicate width any)
+    All-from_recursion (λ (r : List CellValue). length r ≡ width) (value_rows rows.items) wide number [] inside ∙ sym (length-replicate width any)
 
 -- ---- some columns
 
@@ -137,10 +132,9 @@ blocks_picked places kinds made pieces new kinds_are is = record {
   where
     row : (number : ℕ) → number / BLOCK_ROWS < length pieces.items → numbered_row new.items number ≡ values_at places (numbered_row pieces.items number)
     row number h =
-        let none : List ColumnCells = [] in
-        ap (λ (ps : List (List ColumnCells)). piece_row (get_or ps (number / BLOCK_ROWS) none) (number % BLOCK_ROWS)) is
-        ∙ ap (λ (p : List ColumnCells). piece_row p (number % BLOCK_ROWS)) (get_or-map (piece_at places) pieces.items (number / BLOCK_ROWS) none none h)
-        ∙ picked_row places (get_or pieces.items (number / BLOCK_ROWS) none) (number % BLOCK_ROWS)
+        ap (λ (ps : List (List ColumnCells)). piece_row (get_or ps (number / BLOCK_ROWS) []) (number % BLOCK_ROWS)) is
+        ∙ ap (λ (p : List ColumnCells). piece_row p (number % BLOCK_ROWS)) (get_or-map (piece_at places) pieces.items (number / BLOCK_ROWS) [] [] h)
+        ∙ picked_row places (get_or pieces.items (number / BLOCK_ROWS) []) (number % BLOCK_ROWS)
 
 pub values_picked : (places : List ℕ) (width : ℕ) (rows new : Vec (Vec Value Global) Global) → value_rows new.items ≡ map (values_at places) (value_rows rows.items)
     → IsPicked places (Values width rows) (Values (length places) new)
@@ -156,5 +150,4 @@ values_picked places width rows new is = record {
 
     row : (number : ℕ) → number < length (value_rows rows.items) → get_or (value_rows new.items) number [] ≡ values_at places (get_or (value_rows rows.items) number [])
     row number h =
-        let none : List CellValue = [] in
-        ap (λ (rs : List (List CellValue)). get_or rs number none) is ∙ get_or-map (values_at places) (value_rows rows.items) number none none h
+        ap (λ (rs : List (List CellValue)). get_or rs number []) is ∙ get_or-map (values_at places) (value_rows rows.items) number [] [] h
