@@ -1,5 +1,4 @@
-//! A table is read from its file: its index is made, then its header is read against the columns, then its rows, from the last ones on, and then their keys
-//! are read.
+//! A table is read from its file: its index is made, then its header is read against the columns, then its rows, the last ones first, then their keys.
 ghost use Rattle.std.specs.Prelude.{◌≡◌, ◌≤◌, ◌^◌, ◌+◌, ◌*◌, ℕ, List, Option, None, IfOk, IfErr, IfSome, length};
 ghost use Rattle.csv_grammar.specs.Raw.{RawField};
 ghost use Rattle.csvw_meta.specs.Schema.{schema_view, SchemaOf};
@@ -37,8 +36,7 @@ pub enum StageStep {
     Over(KeyedRows),
 }
 
-/// Reads one more piece of a file; once it is indexed, begins to read its rows if its header matches the columns of a schema. Returns the first thing that
-/// is wrong with it before its rows.
+/// Reads one more piece of a file. Once it is indexed, begins to read its rows. Returns the first thing that is wrong with it before its rows.
 fn index_step(alloc: Global, schema: &Schema, indexing: Indexing) -> Result<Stage, TableFault>
     requires short { length indexing.bytes ≤ 2 ^ 30 }
     ensures goes_on { IfOk result (ReachesStage (schema_view schema.now) indexing) }

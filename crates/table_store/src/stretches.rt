@@ -1,5 +1,4 @@
-//! Reading the rows of a file by stretches of whole blocks, the last stretch first, each in steps. What was read of the file is let go, so that it and the
-//! columns are never both there in full.
+//! Reads the rows of a file by stretches of whole blocks, the last one first, each in steps. Frees what was read: file and columns are never both whole.
 ghost use Rattle.std.specs.Prelude.{◌≡◌, List, IfOk, IfErr, map};
 ghost use Rattle.cell_types.specs.Column.{column_view};
 ghost use Rattle.csv_grammar.specs.Raw.{RawField};
@@ -109,8 +108,7 @@ fn append_columns(front: Vec<TypedColumn>, after: Vec<TypedColumn>) -> ReadColum
     Ok(front)
 }
 
-/// Returns what is read of rows and of those that follow them, given what is read of either. The first cell that has no value is one of the former, if they
-/// have one.
+/// Returns what is read of rows and of those that follow them. The first cell that has no value is one of the former if they have one.
 fn join_columns(front: ReadColumns, after: Option<ReadColumns>) -> ReadColumns
     requires { AreToJoin front after }
     ensures { AreReadTogether front after result }
