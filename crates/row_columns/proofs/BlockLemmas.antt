@@ -1,8 +1,9 @@
 -- Rows that follow on one another in one block.
-use Rattle.std.proofs.Common.{◌≡◌, ℕ, zero, suc, ◌+◌, ◌-◌, ◌*◌, ◌/◌, ◌%◌, ◌<◌, ◌≤◌, List, [], ◌∷◌, length, map, take, drop, get_or, refl, sym, ap, ◌∙◌, arith}
-use Rattle.std.proofs.lemmas.List.{drop-map, get_or-map, length-map, take-map}
+use Rattle.std.proofs.Common.{◌≡◌, inl, inr, ℕ, zero, suc, ◌+◌, ◌-◌, ◌*◌, ◌/◌, ◌%◌, ◌<◌, ◌≤◌, List, [], ◌∷◌, length, map, take, drop, get_or, refl, sym, ap, ◌∙◌, arith}
+use Rattle.std.proofs.lemmas.Bool.{cases_lt}
+use Rattle.std.proofs.lemmas.List.{drop-map, get_or-map, get_or_past, length-map, take-map}
 use Rattle.block_summary.specs.declared.block.TheConstants.{BLOCK_ROWS}
-use Rattle.cell_types.specs.Value.{CellValue, null}
+use Rattle.cell_types.specs.Value.{CellValue, null, text}
 use Rattle.column_blocks.specs.ColumnCells.{ColumnCells}
 use Rattle.row_columns.specs.Numbers.{numbers_from}
 use Rattle.row_columns.specs.Piece.{no_cells, piece_row}
@@ -78,3 +79,16 @@ pub part_at : (cells : List CellValue) (first len row : ℕ) → row < len → g
 part_at cells first len row less =
     get_or-map (λ n. get_or cells n null) (numbers_from first len) row 0 null (omega (arith, less, length-from first len))
     ∙ ap (λ n. get_or cells n null) (get-from first len row less)
+
+-- the texts of part of a column
+pub part_texts : (cells texts : List CellValue) (first len last : ℕ) (P : List ℕ → Type 0) → texts ≡ cells → last + 1 ≡ first + len
+    → ((row : ℕ) (t : List ℕ) → first ≤ row → row ≤ last → get_or texts row null ≡ text t → P t)
+    → (row : ℕ) (t : List ℕ) → get_or (map (λ n. get_or cells n null) (numbers_from first len)) row null ≡ text t → P t
+part_texts cells texts first len last P same ends have row t is = elim (cases_lt row len) [
+  | inl less ↦
+      have (first + row) t (omega arith) (omega (arith, less, ends)) (ap (λ (cs : List CellValue). get_or cs (first + row) null) same ∙ sym (part_at cells first len row less) ∙ is)
+  | inr past ↦
+      let long : length (map (λ n. get_or cells n null) (numbers_from first len)) ≤ row = omega (arith, past, length-map (numbers_from first len) (λ n. get_or cells n null), length-from first len) in
+      let none : null ≡ text t = sym (get_or_past (map (λ n. get_or cells n null) (numbers_from first len)) row null long) ∙ is in
+      let no : ⊥ = cc in absurd no
+]

@@ -3,8 +3,8 @@ use Rattle.std.proofs.Common.{◌≡◌, ◌↔◌, add-one, ◌≢◌, inl, inr
 use Rattle.std.proofs.lemmas.Bool.{cases_eq, cases_lt, true≢false}
 use Rattle.std.proofs.lemmas.List.{get_or-drop, get_or-set_other, get_or-set_same, get_or-take, length-drop, length-set, length-take}
 use Rattle.memchr.specs.Find.{Nowhere, OccursAt}
-use Rattle.cell_types.specs.Value.{CellValue, null}
-use Rattle.text_columns.specs.Search.{row_cell, AreMarksOfPart, CellHasPart, IsRight}
+use Rattle.cell_types.specs.Value.{CellValue, null, text}
+use Rattle.text_columns.specs.Search.{row_cell, AreMarksOfPart, CellHasPart, HaveTexts, IsRight}
 use Rattle.text_columns.specs.Texts.{text_unless_null, start_from, text_block_cells, EndsRise}
 use Rattle.text_columns.proofs.TextLemmas.{cell-at, length-text_cells}
 
@@ -44,6 +44,46 @@ end-before ends size row (suc later) rise lt h = elim (cases_eq row later) [
   | inl is ↦ omega (arith, ap (λ k. get_or ends k 0) is)
   | inr ne ↦ omega (arith, end-before ends size row later rise (omega (arith, ne)) (omega arith), (rise later (omega arith)).0)
 ]
+
+starts-rise : (ends : List ℕ) (size first row : ℕ) → EndsRise ends size → first ≤ row → row < length ends → start_from 0 ends first ≤ start_from 0 ends row
+starts-rise ends size first row rise le h = elim (cases_eq first row) [
+  | inl is ↦ omega (arith, ap (start_from 0 ends) is)
+  | inr ne ↦ let lt : first < row = omega (arith, le, ne) in omega (arith, (rise first (omega (arith, lt, h))).0, end-before ends size first row rise lt h)
+]
+
+ends-rise : (ends : List ℕ) (size row last : ℕ) → EndsRise ends size → row ≤ last → last < length ends → get_or ends row 0 ≤ get_or ends last 0
+ends-rise ends size row last rise le h = elim (cases_eq row last) [
+  | inl is ↦ omega (arith, ap (λ k. get_or ends k 0) is)
+  | inr ne ↦ omega (arith, end-before ends size row last rise (omega (arith, le, ne)) h, (rise last h).0)
+]
+
+-- the bytes of rows
+pub rows-within : (nulls : List Bool) (ends bytes : List ℕ) (cells : List CellValue) (first last start end : ℕ) → EndsRise ends (length bytes) → text_block_cells nulls ends bytes ≡ cells
+    → first ≤ last → last < length cells → start ≡ start_from 0 ends first → end ≡ get_or ends last 0 → (start ≤ end) × (end ≤ length bytes)
+rows-within nulls ends bytes cells first last start end rise view le h from to =
+    let lt : last < length ends = omega (arith, h, length-text_cells nulls ends bytes, ap length view) in
+    (omega (arith, from, to, starts-rise ends (length bytes) first last rise le lt, (rise last lt).0), omega (arith, to, (rise last lt).1))
+
+-- a text stands in the bytes where it begins
+text-in : (b : Bool) (bytes t : List ℕ) (start end : ℕ) → start ≤ end → end ≤ length bytes → text_unless_null b (slice_range bytes start end) ≡ text t → OccursAt bytes t start × (start + length t ≡ end)
+text-in true bytes t start end order within is = let no : ⊥ = cc in absurd no
+text-in false bytes t start end order within is =
+    let same : slice_range bytes start end ≡ t = cc in
+    let long = length-slice bytes start end order within in
+    let size : start + length t ≡ end = omega (arith, order, long, ap length same) in
+    (record { fits = omega (arith, size, within); reads = λ j h. sym (slice-at bytes start end j (omega (arith, size, h))) ∙ ap (λ (xs : List ℕ). get_or xs j 0) same }, size)
+
+pub texts-in : (nulls : List Bool) (ends bytes : List ℕ) (cells : List CellValue) (first last : ℕ) → EndsRise ends (length bytes) → text_block_cells nulls ends bytes ≡ cells → last < length ends
+    → HaveTexts (slice_range bytes (start_from 0 ends first) (get_or ends last 0)) cells first last
+texts-in nulls ends bytes cells first last rise view h row t low high is =
+    let lt : row < length ends = omega (arith, h, high) in
+    let order = rise row lt in
+    let at = text-in (get_or nulls row false) bytes t (start_from 0 ends row) (get_or ends row 0) order.0 order.1
+    (sym (cell-at nulls ends bytes row lt) ∙ ap (λ (cs : List CellValue). get_or cs row null) view ∙ is) in (
+      start_from 0 ends row - start_from 0 ends first,
+      occurs-in bytes t (start_from 0 ends first) (get_or ends last 0) (start_from 0 ends row) (starts-rise ends (length bytes) first row rise low lt)
+          (omega (arith, at.1, ends-rise ends (length bytes) row last rise high h)) (rise last h).1 at.0,
+    )
 
 -- the rows before one are right, the others are not marked, and where the part stands in one of these, it begins at a place or after it
 pub record AreFound (nulls : List Bool) (ends bytes part : List ℕ) (out : List Bool) (row from : ℕ) : Type 0 where

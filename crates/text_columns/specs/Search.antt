@@ -1,5 +1,5 @@
 -- Texts in which a part stands (OData 4.01 URL Conventions, section 5.1.1.5.1).
-use Rattle.std.specs.Prelude.{◌≡◌, ◌↔◌, ◌<◌, ℕ, Bool, true, false, List, length, slice_index_or, slice_range}
+use Rattle.std.specs.Prelude.{◌≡◌, ◌↔◌, ◌<◌, ◌≤◌, ℕ, Bool, true, false, List, length, slice_index_or, slice_range}
 use Rattle.memchr.specs.Find.{OccursAt}
 use Rattle.cell_types.specs.Value.{CellValue, null, text}
 use Rattle.text_columns.specs.Texts.{text_unless_null, start_from}
@@ -7,6 +7,10 @@ use Rattle.text_columns.specs.Texts.{text_unless_null, start_from}
 -- the bytes of the part stand somewhere in the text
 abbrev pub HasPart : List ℕ → List ℕ → Type 0
 HasPart part t = (place : ℕ) × OccursAt t part place
+
+-- each text of the cells from one to another stands somewhere in these bytes
+abbrev pub HaveTexts : List ℕ → List CellValue → ℕ → ℕ → Type 0
+HaveTexts bytes cells first last = (row : ℕ) (t : List ℕ) → first ≤ row → row ≤ last → slice_index_or cells row null ≡ text t → HasPart t bytes
 
 -- the cell is a text in which the part stands
 abbrev pub CellHasPart : List ℕ → CellValue → Type 0

@@ -1,7 +1,8 @@
 //! The texts of a column of a block, as they are lent.
-ghost use Rattle.std.specs.Prelude.{◌≡◌, ◌<◌, false, IfSome, MatchOption, length, slice_index_or};
+ghost use Rattle.std.specs.Prelude.{◌≡◌, ◌<◌, ◌≤◌, false, IfSome, MatchOption, length, slice_index_or};
 ghost use Rattle.cell_types.specs.Value.{null, text as text_cell, value_view};
 ghost use Rattle.text_columns.specs.Codes.{AreCodes};
+ghost use Rattle.text_columns.specs.Search.{HaveTexts};
 
 use crate::codes::TextCodes;
 use crate::places::{Places, count_of, place_at, start_at};
@@ -79,6 +80,18 @@ impl<'t> TextColumn<'t> {
         let start = start_at(self.ends, row);
         let end = place_at(self.ends, row);
         Some(&self.bytes[start..end])
+    }
+
+    /// Returns bytes that have the texts of the rows from `first` to `last`.
+    #[inline(always)]
+    pub fn bytes_of(&self, first: usize, last: usize) -> &'t [u8]
+        requires order { first ≤ last }
+        requires within { last < length self.now }
+        ensures { HaveTexts result.now self.now first last }
+    {
+        let start = start_at(self.ends, first);
+        let end = place_at(self.ends, last);
+        &self.bytes.as_bytes()[start..end]
     }
 
     /// Returns the value of a row.
