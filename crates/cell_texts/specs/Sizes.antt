@@ -1,8 +1,9 @@
 -- Sizes to which others are added.
-use Rattle.std.specs.Prelude.{◌≡◌, ◌+◌, ◌<◌, ℕ, zero, suc, List, [], get_or, length}
+use Rattle.std.specs.Prelude.{◌≡◌, ◌+◌, ◌<◌, ℕ, zero, suc, Bool, List, [], IsTrue, get_or, length}
 use Rattle.std.specs.List.{flat_map}
 use Rattle.cell_texts.specs.declared.row_sizes.Frame.{Frame}
-use Rattle.cell_types.specs.Value.{CellValue, null}
+use Rattle.cell_types.specs.Value.{CellValue, null, text as text_cell}
+use Rattle.reply_values.specs.Printed.{is_plain_text}
 use Rattle.reply_values.specs.Size.{told}
 
 -- how many bytes the row with a number takes without its values
@@ -14,6 +15,13 @@ frame_at frame (suc row) = frame.first + frame.more
 pub record AreCellsCounted (text : CellValue → List ℕ) (cells : List CellValue) (old new : List ℕ) : Type 0 where
   pub long : length new ≡ length old
   pub each : (i : ℕ) → i < length old → get_or new i 0 ≡ told (get_or old i 0 + length (text (get_or cells i null)))
+
+-- a text has no byte that does not stand for itself
+abbrev pub IsPlainCell : Bool → CellValue → Type 0
+IsPlainCell json cell = (t : List ℕ) → cell ≡ text_cell t → IsTrue (is_plain_text json t)
+
+abbrev pub ArePlainCells : Bool → List CellValue → Type 0
+ArePlainCells json cells = (i : ℕ) → i < length cells → IsPlainCell json (get_or cells i null)
 
 -- these are the sizes of the rows from one on, with their frames
 abbrev pub AreRowsCounted : (CellValue → List ℕ) → List (List CellValue) → ℕ → Frame → List ℕ → Type 0

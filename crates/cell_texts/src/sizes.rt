@@ -1,11 +1,13 @@
 //! How many bytes the texts of cells take, or do not pass. None is written.
-ghost use Rattle.std.specs.Prelude.{◌≡◌, ◌≤◌, length};
+ghost use Rattle.std.specs.Prelude.{◌≡◌, ◌≤◌, IsTrue, length};
+ghost use Rattle.cell_texts.specs.Sizes.{IsPlainCell};
 ghost use Rattle.reply_values.specs.Printed.{printed_value};
 ghost use Rattle.reply_values.specs.Size.{told};
 ghost use Rattle.row_columns.specs.Cell.{cell_view};
 
 use reply_values::{
-    bool_size, date_size, decimal_size, integer_size, number_room, text_room, text_size, value_size,
+    bool_size, date_size, decimal_size, integer_size, number_room, plain_size, text_room,
+    text_size, value_size,
 };
 use row_columns::Cell;
 
@@ -23,6 +25,18 @@ pub fn cell_size<const JSON: bool>(cell: Cell<'_>) -> usize
         Cell::Date(date) => date_size::<JSON>(date),
         Cell::Text(text) => text_size::<JSON>(text.as_bytes()),
         Cell::Value(value) => value_size::<JSON>(value),
+    }
+}
+
+/// Returns how many bytes a cell takes, as [`cell_size`] does. No text is looked at if `is_plain`: each of its bytes stands for itself.
+#[inline(always)]
+pub fn known_size<const JSON: bool>(cell: Cell<'_>, is_plain: bool) -> usize
+    requires { IsTrue is_plain → IsPlainCell JSON (cell_view cell) }
+    ensures { result ≡ told (length (printed_value JSON (cell_view cell.entry))) }
+{
+    match cell {
+        Cell::Text(text) if is_plain => plain_size::<JSON>(text.len()),
+        other => cell_size::<JSON>(other),
     }
 }
 

@@ -1,5 +1,5 @@
 -- From the blocks of a text to its first byte that passes a test.
-use Rattle.std.proofs.Common.{◌≡◌, ℕ, zero, suc, ◌+◌, ◌-◌, ◌<◌, ◌≤◌, Bool, true, false, not, ◌||◌, cond, ltb, min, List, [], ◌∷◌, length, take, drop, refl, ap, ◌∙◌, arith, tests}
+use Rattle.std.proofs.Common.{◌≡◌, ℕ, zero, suc, ◌+◌, ◌-◌, ◌<◌, ◌≤◌, Bool, true, false, not, ◌||◌, ◌==◌, cond, ltb, min, List, [], ◌∷◌, length, take, drop, refl, ap, ◌∙◌, arith, tests}
 use Rattle.std.specs.List.{position_or_len, list_any}
 use Rattle.std.proofs.lemmas.List.Sums.{prefix_len-le-length}
 
@@ -35,7 +35,7 @@ block_tells p xs n at r before is =
     is ∙ first_of_front p (drop at xs) n ∙ ap (min n) (omega (arith, first_of_rest p xs at before))
 
 -- whether one passes
-pub any_is_first : (p : ℕ → Bool) (xs : List ℕ) → list_any p xs ≡ ltb (position_or_len p xs) (length xs)
+any_is_first : (p : ℕ → Bool) (xs : List ℕ) → list_any p xs ≡ ltb (position_or_len p xs) (length xs)
 any_is_first p [] = refl
 any_is_first p (x ∷ xs) = by (p x) (any_is_first p xs)
   where
@@ -43,6 +43,13 @@ any_is_first p (x ∷ xs) = by (p x) (any_is_first p xs)
         → (t || list_any p xs) ≡ ltb (cond (not t) (1 + position_or_len p xs) 0) (suc (length xs))
     by true e = grind (arith, tests)
     by false e = e ∙ grind (arith, tests)
+
+-- none passes where the first is past the end
+pub none_is_past : (p : ℕ → Bool) (xs : List ℕ) → not (list_any p xs) ≡ (position_or_len p xs == length xs)
+none_is_past p xs = by (any_is_first p xs) (first_within p xs)
+  where
+    by : list_any p xs ≡ ltb (position_or_len p xs) (length xs) → position_or_len p xs ≤ length xs → not (list_any p xs) ≡ (position_or_len p xs == length xs)
+    by any within = ap not any ∙ grind (arith, tests)
 
 -- the first stands in a block
 pub first_here : (p : ℕ → Bool) (xs : List ℕ) (n at r : ℕ) → at ≤ position_or_len p xs → r ≡ position_or_len p (take n (drop at xs)) → r < n

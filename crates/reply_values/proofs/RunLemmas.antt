@@ -1,10 +1,13 @@
 -- Runs of bytes that stand for themselves.
-use Rattle.std.proofs.Common.{◌≡◌, ℕ, ◌+◌, Bool, true, false, ◌||◌, cond, not, List, [], ◌∷◌, ◌++◌, length, take, drop, refl, sym, ap, ◌∙◌, arith, append_assoc, tests, length-append}
-use Rattle.std.specs.List.{flat_map, position_or_len}
+use Rattle.std.proofs.Common.{◌≡◌, ℕ, ◌+◌, Bool, true, false, ◌||◌, ◌==◌, cond, not, List, [], ◌∷◌, ◌++◌, length, take, drop, refl, sym, ap, ◌∙◌, arith, append_assoc, tests, length-append}
+use Rattle.std.specs.List.{flat_map, list_any, position_or_len}
 use Rattle.std.proofs.lemmas.List.{take-append-drop, take_all, append-nil, nil_from_length}
 use Rattle.std.proofs.lemmas.List.Concat.{flat_map-append}
-use Rattle.reply_values.specs.Csv.{doubled_byte, needs_quotes}
-use Rattle.reply_values.specs.Printed.{printed_byte, needs_more, printed_text}
+use Rattle.std.proofs.lemmas.Bool.{eqb-true}
+use Rattle.reply_values.proofs.BlockLemmas.{none_is_past}
+use Rattle.reply_values.specs.Csv.{doubled_byte, is_quoted_byte, needs_quotes}
+use Rattle.reply_values.specs.Json.{json_escaped}
+use Rattle.reply_values.specs.Printed.{is_plain_text, printed_byte, needs_more, printed_text}
 use Rattle.reply_values.specs.Size.{told}
 
 escaped_plain : (json : Bool) (b : ℕ) → needs_more json b ≡ false → printed_byte json b ≡ b ∷ []
@@ -25,10 +28,25 @@ pub plain_run : (json : Bool) (bs : List ℕ) → flat_map (printed_byte json) (
 plain_run json [] = refl
 plain_run json (b ∷ bs) = flat_map_plain_from json b bs (needs_more json b) refl (run_of json bs) (plain_run json bs)
 
--- a text that is one run stands for itself
-pub all_plain : (json : Bool) (bs : List ℕ) → run_of json bs ≡ length bs → flat_map (printed_byte json) bs ≡ bs
-all_plain json bs whole =
-    let front : take (run_of json bs) bs ≡ bs = take_all (run_of json bs) bs (omega (arith, whole)) in rw front at (plain_run json bs)
+plain_then_whole : (json : Bool) (bs : List ℕ) → is_plain_text json bs ≡ true → run_of json bs ≡ length bs
+plain_then_whole json bs plain = eqb-true (run_of json bs) (length bs) (sym (none_is_past (needs_more json) bs) ∙ plain)
+
+-- a text each byte of which stands for itself does so
+pub all_plain : (json : Bool) (bs : List ℕ) → is_plain_text json bs ≡ true → flat_map (printed_byte json) bs ≡ bs
+all_plain json bs plain =
+    let front : take (run_of json bs) bs ≡ bs = take_all (run_of json bs) bs (omega (arith, plain_then_whole json bs plain)) in rw front at (plain_run json bs)
+
+-- and is as long, with its double quotes
+pub plain_long : (json : Bool) (bytes : List ℕ) → is_plain_text json bytes ≡ true
+    → length (printed_text json bytes) ≡ cond (json || (length bytes == 0)) (length bytes + 2) (length bytes)
+plain_long true bytes plain = omega (arith, ap length (all_plain true bytes plain), length-append (flat_map json_escaped bytes) (34 ∷ []))
+plain_long false bytes plain = by (length bytes == 0) (list_any is_quoted_byte bytes) plain (ap length (all_plain false bytes plain))
+  where
+    by : (empty some : Bool) → not some ≡ true → length (flat_map doubled_byte bytes) ≡ length bytes
+        → length (cond (empty || some) (34 ∷ (flat_map doubled_byte bytes ++ 34 ∷ [])) bytes) ≡ cond empty (length bytes + 2) (length bytes)
+    by true some plain inside = omega (arith, inside, length-append (flat_map doubled_byte bytes) (34 ∷ []))
+    by false true plain inside = cc
+    by false false plain inside = refl
 
 run_and_rest : (json : Bool) (bs : List ℕ) → flat_map (printed_byte json) bs ≡ take (run_of json bs) bs ++ flat_map (printed_byte json) (drop (run_of json bs) bs)
 run_and_rest json bs =

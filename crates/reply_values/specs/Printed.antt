@@ -1,5 +1,6 @@
 -- The texts of values in JSON (RFC 8259; OData 4.01 JSON Format) or in CSV (RFC 4180).
-use Rattle.std.specs.Prelude.{Bool, true, false, List, [], ◌∷◌, ◌++◌, ℕ, codes, if◌then◌else◌}
+use Rattle.std.specs.Prelude.{Bool, true, false, List, [], ◌∷◌, ◌++◌, ℕ, codes, if◌then◌else◌, not}
+use Rattle.std.specs.List.{list_any}
 use Rattle.std.specs.Fmt.{signed_decimal}
 use Rattle.cell_types.specs.Decimal.{decimal_text}
 use Rattle.cell_types.specs.Value as cell
@@ -11,6 +12,10 @@ use Rattle.reply_values.specs.Value.{bool_text, day_text}
 -- whether a byte of a text does not stand for itself: another text stands for it, or it stands in double quotes alone
 abbrev pub needs_more : Bool → ℕ → Bool
 needs_more json b = if json then needs_escape b else is_quoted_byte b
+
+-- whether each byte of a text stands for itself
+abbrev pub is_plain_text : Bool → List ℕ → Bool
+is_plain_text json bytes = not (list_any (needs_more json) bytes)
 
 -- what stands for a byte between double quotes
 abbrev pub printed_byte : Bool → ℕ → List ℕ

@@ -17,6 +17,7 @@ pub use digits::{bool_size, date_size, decimal_size, integer_size, number_room, 
 pub use push::{push_number, push_text, push_text_member};
 pub use put_numbers::{put_bool, put_date, put_decimal, put_integer};
 pub use room::{put_byte, put_piece};
-pub use text_sizes::{text_room, text_size};
+pub use runs::is_plain;
+pub use text_sizes::{plain_size, text_room, text_size};
 pub use texts::put_text;
 pub use value::{push_value, put_value, value_size};

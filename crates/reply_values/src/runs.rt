@@ -3,7 +3,7 @@ ghost use Rattle.std.specs.Prelude.{◌≡◌, ◌||◌, ◌+◌, ◌<◌, ◌�
 ghost use Rattle.std.specs.List.{position_or_len};
 ghost use Rattle.reply_values.specs.Csv.{is_quoted_byte, needs_quotes};
 ghost use Rattle.reply_values.specs.Json.{needs_escape};
-ghost use Rattle.reply_values.specs.Printed.{needs_more};
+ghost use Rattle.reply_values.specs.Printed.{is_plain_text, needs_more};
 
 use crate::lanes::{unescaped_in, unquoted_in};
 
@@ -91,13 +91,21 @@ pub fn run_len<const JSON: bool>(text: &[u8]) -> usize
     }
 }
 
+/// Returns true if each byte of a text stands for itself.
+#[inline(always)]
+#[tactic(auto, using(crate::proofs::BlockLemmas::none_is_past))]
+pub fn is_plain<const JSON: bool>(text: &[u8]) -> bool
+    ensures { result ≡ is_plain_text JSON text.now }
+{
+    run_len::<JSON>(text) == text.len()
+}
+
 /// Returns true if a text stands in double quotes in CSV.
 #[inline(always)]
-#[tactic(auto, using(crate::proofs::BlockLemmas::any_is_first))]
 fn needs_quotes(text: &[u8]) -> bool
     ensures { result ≡ needs_quotes text.now }
 {
-    text.is_empty() || run_len::<false>(text) < text.len()
+    text.is_empty() || !is_plain::<false>(text)
 }
 
 /// Returns true if a text stands in double quotes, as each does in JSON.

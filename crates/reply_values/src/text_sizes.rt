@@ -1,7 +1,7 @@
 //! How many bytes texts take in JSON (RFC 8259) or in CSV (RFC 4180, section 2). None is written.
-ghost use Rattle.std.specs.Prelude.{◌≡◌, ◌≤◌, length};
+ghost use Rattle.std.specs.Prelude.{◌≡◌, ◌≤◌, ℕ, List, IsTrue, length};
 ghost use Rattle.std.specs.List.{flat_map};
-ghost use Rattle.reply_values.specs.Printed.{printed_byte, printed_text};
+ghost use Rattle.reply_values.specs.Printed.{is_plain_text, printed_byte, printed_text};
 ghost use Rattle.reply_values.specs.Size.{told};
 
 use crate::runs::{is_quoted, run_len};
@@ -46,6 +46,20 @@ pub fn text_size<const JSON: bool>(text: &[u8]) -> usize
         inside_size::<JSON>(text).saturating_add(2)
     } else {
         text.len()
+    }
+}
+
+/// Returns how many bytes a text of `len` bytes takes, each of which stands for itself.
+#[inline(always)]
+#[tactic(auto, using(crate::proofs::RunLemmas::plain_long))]
+pub fn plain_size<const JSON: bool>(len: usize) -> usize
+    ensures { (text : List ℕ) → length text ≡ len → IsTrue (is_plain_text JSON text)
+        → result ≡ told (length (printed_text JSON text)) }
+{
+    if JSON || len == 0 {
+        len.saturating_add(2)
+    } else {
+        len
     }
 }
 

@@ -5,7 +5,7 @@ ghost use Rattle.reply_values.specs.Json.{hex_digit, json_escaped};
 ghost use Rattle.reply_values.specs.Printed.{printed_byte, printed_text};
 
 use crate::room::{put_block, put_byte, put_piece};
-use crate::runs::{is_quoted, run_len};
+use crate::runs::{is_plain, is_quoted, run_len};
 
 /// Returns a hexadecimal digit in lower case.
 fn hex_digit(n: u8) -> u8
@@ -84,7 +84,7 @@ fn put_inside<const JSON: bool>(out: &mut [u8], at: usize, text: &[u8]) -> usize
     ensures bytes { take result out.new ≡ take at out.old ++ flat_map (printed_byte JSON) text.now }
     ensures end { result ≡ at + length (flat_map (printed_byte JSON) text.now) }
 {
-    if run_len::<JSON>(text) == text.len() {
+    if is_plain::<JSON>(text) {
         put_piece(out, at, text)
     } else {
         put_runs::<JSON>(out, at, text)

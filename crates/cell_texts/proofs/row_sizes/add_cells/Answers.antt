@@ -9,6 +9,6 @@ loop-i-preserved g c = (
   below_more _ _
       (λ k h. let ne : k ≢ c.loop-i.i = omega arith in rw get_or-set_other (c.loop-i.invariant.0 k h))
       (let lt : c.loop-i.i < length c.loop-i.sizes = omega arith in
-      rw get_or-set_same (omega (arith, c.saturating_add.ensures, c.cell_size.ensures, ap (λ v. length (printed_value (JSON-type (number g.row.JSON)) v)) c.cell.ensures, c.loop-i.invariant.1 c.loop-i.i (omega arith)))),
+      rw get_or-set_same (omega (arith, c.saturating_add.ensures, c.known_size.ensures, ap (λ v. length (printed_value (JSON-type (number g.row.JSON)) v)) c.cell.ensures, c.loop-i.invariant.1 c.loop-i.i (omega arith)))),
   λ k h. let ne : k ≢ c.loop-i.i = omega arith in rw get_or-set_other (c.loop-i.invariant.1 k (omega arith)),
 )
