@@ -1,5 +1,5 @@
 -- Codes of rows by their values in some columns.
-use Rattle.std.proofs.Common.{◌≡◌, ◌+◌, ◌*◌, ◌/◌, ◌%◌, ◌++◌, ◌<◌, ◌≤◌, ℕ, zero, suc, List, [], ◌∷◌, Option, None, Some, get_or, length, replicate, take, refl, sym, ap, subst, ◌∙◌, arith, mul-le-mul_right}
+use Rattle.std.proofs.Common.{◌≡◌, ◌+◌, ◌*◌, ◌/◌, ◌%◌, ◌++◌, ◌<◌, ◌≤◌, ℕ, List, [], ◌∷◌, Option, None, Some, get_or, length, replicate, take, refl, sym, ap, subst, ◌∙◌, arith, mul-le-mul_right}
 use Rattle.std.specs.Prelude.{Err, IfOk, IfSome, Ok, Result, ℤ, pos, ◌+ℤ◌, ◌-ℤ◌, ◌≤ℤ◌, unsigned_abs}
 use Rattle.std.specs.List.{All}
 use Rattle.std.specs.declared.alloc.AllocError.{AllocError}
@@ -7,9 +7,8 @@ use Rattle.std.proofs.lemmas.Int.{ints}
 use Rattle.std.proofs.lemmas.List.{get_or-map, get_or-replicate, length-map, length-replicate, map_more}
 use Rattle.std.proofs.lemmas.Nat.{div-mul-add, mod-mul-add}
 use Rattle.block_summary.specs.Cells.{AreBounds}
-use Rattle.block_summary.specs.Ranges.{column_of}
 use Rattle.cell_types.specs.Kind.{cell_of}
-use Rattle.block_summary.specs.Types.{cells_of_kind, numbers_of}
+use Rattle.block_summary.specs.Types.{numbers_of}
 use Rattle.block_summary.specs.declared.bounds.Bounds.{Bounds}
 use Rattle.cell_types.specs.declared.kind.NumberKind.{NumberKind}
 use Rattle.cell_types.specs.Rows.{value_at, values_at}
@@ -19,6 +18,8 @@ use Rattle.row_columns.specs.Picked.{numbered}
 use Rattle.aggregate_rows.specs.declared.codes.Codes.{Codes}
 use Rattle.aggregate_rows.specs.declared.codes.TheConstants.{MOST_CODES}
 use Rattle.aggregate_rows.specs.Codes.{joined_values, value_alone, AreFewCodes, HaveCodesOf, HaveKeyCodes, HaveNumberCodes, HaveTextCodes}
+use Rattle.aggregate_rows.specs.Sums.{IsKeptAs}
+use Rattle.aggregate_rows.proofs.KeptLemmas.{value_here}
 use Rattle.aggregate_rows.proofs.ListLemmas.{zip_at, zip_long}
 
 -- a row by its number
@@ -31,22 +32,15 @@ codes_of_rows numbers rows made are = subst (λ n. AreFewCodes n made) (sym (len
 
 -- ---- a column of numbers
 
-cell-at : (type : NumberKind) (cells : List (Option ℤ)) (row : ℕ) → get_or (cells_of_kind type cells) row null ≡ cell_of type (get_or cells row None)
-cell-at type [] row = refl
-cell-at type (n ∷ ns) zero = refl
-cell-at type (n ∷ ns) (suc row) = cell-at type ns row
-
-pub number-codes : (place : ℕ) (numbers : List ℕ) (rows : List (List CellValue)) (cells : List CellValue) (type : NumberKind) (made : Codes) → All (λ n. n < length rows) numbers
-    → cells ≡ column_of rows place → cells_of_kind type (numbers_of cells) ≡ cells → HaveNumberCodes (numbers_of cells) numbers made → HaveCodesOf (value_alone place) (numbered numbers rows) made
-number-codes place numbers rows cells type made within column typed have = record {
+pub number-codes : (place : ℕ) (numbers : List ℕ) (rows : List (List CellValue)) (cells : List CellValue) (type : NumberKind) (made : Codes)
+    → IsKeptAs type place rows cells → HaveNumberCodes (numbers_of cells) numbers made → HaveCodesOf (value_alone place) (numbered numbers rows) made
+number-codes place numbers rows cells type made kept have = record {
   are = codes_of_rows numbers rows made have.are;
   values_of = λ code. cell_of type (have.number_of code) ∷ [];
   each = λ i h.
       let inside : i < length numbers = omega (arith, h, length-map numbers (λ n. get_or rows n [])) in
-      let number = get_or numbers i 0 in
       ap (value_alone place) (row_by_number numbers rows i inside)
-      ∙ ap (λ v. v ∷ []) (sym (get_or-map (λ row. get_or row place null) rows number [] null (within i 0 inside))
-      ∙ ap (λ vs. get_or vs number null) (sym column ∙ sym typed) ∙ cell-at type (numbers_of cells) number ∙ ap (cell_of type) (have.each i inside));
+      ∙ ap (λ v. v ∷ []) (value_here type place rows cells kept (get_or numbers i 0) ∙ ap (cell_of type) (have.each i inside));
 }
 
 -- ---- a column of texts
@@ -133,9 +127,9 @@ zero-codes numbers rows made one zeros = record {
 
 -- ---- the codes of a column, where it has such
 
-pub number-codes-made : (place : ℕ) (numbers : List ℕ) (rows : List (List CellValue)) (cells : List CellValue) (type : NumberKind) (made : Result (Option Codes) AllocError) → All (λ n. n < length rows) numbers
-    → cells ≡ column_of rows place → cells_of_kind type (numbers_of cells) ≡ cells → IfOk made (λ m. IfSome m (HaveNumberCodes (numbers_of cells) numbers))
+pub number-codes-made : (place : ℕ) (numbers : List ℕ) (rows : List (List CellValue)) (cells : List CellValue) (type : NumberKind) (made : Result (Option Codes) AllocError)
+    → IsKeptAs type place rows cells → IfOk made (λ m. IfSome m (HaveNumberCodes (numbers_of cells) numbers))
     → IfOk made (λ m. IfSome m (HaveCodesOf (value_alone place) (numbered numbers rows)))
-number-codes-made place numbers rows cells type (Ok (Some made)) within column typed have = number-codes place numbers rows cells type made within column typed have
-number-codes-made place numbers rows cells type (Ok None) within column typed have = tt
-number-codes-made place numbers rows cells type (Err e) within column typed have = tt
+number-codes-made place numbers rows cells type (Ok (Some made)) kept have = number-codes place numbers rows cells type made kept have
+number-codes-made place numbers rows cells type (Ok None) kept have = tt
+number-codes-made place numbers rows cells type (Err e) kept have = tt

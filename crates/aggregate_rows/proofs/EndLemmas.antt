@@ -1,12 +1,12 @@
 -- The least and the greatest value of a column by the ends that it is kept with.
-use Rattle.std.proofs.Common.{◌≡◌, ◌<◌, ◌≤◌, ℕ, false, List, [], get_or, length, inl, inr, refl, sym, ap, ◌∙◌, subst}
-use Rattle.std.specs.Prelude.{◌≢◌, IsTrue}
+use Rattle.std.proofs.Common.{◌≡◌, ◌<◌, ◌≤◌, ℕ, false, Option, Some, None, List, [], get_or, length, inl, inr, refl, sym, ap, ◌∙◌, subst}
+use Rattle.std.specs.Prelude.{◌≢◌, unwrap_or, IsTrue}
 use Rattle.std.specs.declared.cmp.Ordering.{Ordering}
 use Rattle.std.specs.declared.cmp.Ordering.TheVariants.{Less, Equal, Greater}
 use Rattle.std.specs.Ordering.{is_le, is_lt}
 use Rattle.std.proofs.lemmas.Bool.{cases_lt, false≢true}
 use Rattle.std.proofs.lemmas.List.{get_or-map, get_or_default, get_or_past, length-map}
-use Rattle.block_summary.specs.Ranges.{column_of, is_null, AreAllNull, IsGreatest, IsLeast}
+use Rattle.block_summary.specs.Ranges.{column_of, is_null, AreAllNull, HasGreatest, HasLeast, IsGreatest, IsLeast}
 use Rattle.cell_types.specs.Value.{CellValue, null, integer, text, boolean, date, decimal, value_cmp}
 use Rattle.odata_query.specs.declared.aggregate.Aggregate.TheVariants.{Max, Min}
 use Rattle.query_meaning.specs.Apply.{computed_value}
@@ -45,7 +45,7 @@ module _ (place : ℕ) (rows : List (List CellValue)) where
   there v (other, (i, row, inside, is, e)) =
       (i, cell_at i inside ∙ ap (λ r. get_or r place null) (get_or_default rows i none row inside ∙ is) ∙ e)
 
-  pub all_null : ExtremesAreValues → AreAllNull (column_of rows place) → (null ≡ computed_value rows (Min place)) × (null ≡ computed_value rows (Max place))
+  all_null : ExtremesAreValues → AreAllNull (column_of rows place) → (null ≡ computed_value rows (Min place)) × (null ≡ computed_value rows (Max place))
   all_null law nulls =
       let it = law.none place rows (λ i d inside. ap (λ r. get_or r place null) (get_or_default rows i d none inside) ∙ sym (cell_at i inside) ∙ nulls i) in
       (sym it.0, sym it.1)
@@ -56,7 +56,7 @@ module _ (place : ℕ) (rows : List (List CellValue)) where
     not_apart a b Equal e most least = same a b e
     not_apart a b Greater e most least = absurd (false≢true most)
 
-    pub least_is : (v : CellValue) → IsLeast v (column_of rows place) → v ≡ computed_value rows (Min place)
+    least_is : (v : CellValue) → IsLeast v (column_of rows place) → v ≡ computed_value rows (Min place)
     least_is v is =
         let m = computed_value rows (Min place) in
         let it = law.least place rows v (stands v is.among.0 (is_other v is.value) is.among.1) in
@@ -64,10 +64,19 @@ module _ (place : ℕ) (rows : List (List CellValue)) where
         let below = is.below at.0 (ap is_null at.1 ∙ is_some m it.0.0) in
         not_apart v m (value_cmp v m) refl (subst (λ w. IsTrue (is_le (value_cmp v w))) at.1 below) it.1
 
-    pub greatest_is : (v : CellValue) → IsGreatest v (column_of rows place) → v ≡ computed_value rows (Max place)
+    greatest_is : (v : CellValue) → IsGreatest v (column_of rows place) → v ≡ computed_value rows (Max place)
     greatest_is v is =
         let m = computed_value rows (Max place) in
         let it = law.greatest place rows v (stands v is.among.0 (is_other v is.value) is.among.1) in
         let at = there m it.0 in
         let above = is.above at.0 (ap is_null at.1 ∙ is_some m it.0.0) in
         sym (not_apart m v (value_cmp m v) refl (subst (λ w. IsTrue (is_le (value_cmp w v))) at.1 above) it.1)
+
+    -- the end that a column is kept with, if it has one
+    pub least_end : (o : Option CellValue) → HasLeast o (column_of rows place) → unwrap_or o null ≡ computed_value rows (Min place)
+    least_end None nulls = (all_null law nulls).0
+    least_end (Some v) is = least_is v is
+
+    pub greatest_end : (o : Option CellValue) → HasGreatest o (column_of rows place) → unwrap_or o null ≡ computed_value rows (Max place)
+    greatest_end None nulls = (all_null law nulls).1
+    greatest_end (Some v) is = greatest_is v is

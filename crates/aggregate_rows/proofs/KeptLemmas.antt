@@ -1,5 +1,5 @@
 -- Sums of the numbers of a column as a block keeps them.
-use Rattle.std.proofs.Common.{◌≡◌, ℕ, ℤ, zero, suc, ◌+◌, ◌<◌, ◌≤◌, ◌+ℤ◌, Bool, true, false, cond, Option, Some, None, List, [], ◌∷◌, length, get_or, count_by, refl, sym, ap, ◌∙◌, arith}
+use Rattle.std.proofs.Common.{◌≡◌, ℕ, ℤ, zero, suc, ◌+◌, ◌≤◌, ◌+ℤ◌, Bool, true, false, cond, Option, Some, None, List, [], ◌∷◌, length, get_or, count_by, refl, sym, ap, ◌∙◌, arith}
 use Rattle.std.specs.List.{cons_option, filter_map}
 use Rattle.std.proofs.lemmas.Bool.{false≢true}
 use Rattle.std.proofs.lemmas.List.{length-map}
@@ -12,7 +12,7 @@ use Rattle.block_summary.specs.Types.{cells_of_kind, numbers_of}
 use Rattle.cell_types.specs.declared.kind.NumberKind.{NumberKind}
 use Rattle.cell_types.specs.declared.kind.NumberKind.TheVariants.{Integer, Decimal, Boolean, Date}
 use Rattle.cell_types.specs.Value.{CellValue, null}
-use Rattle.query_meaning.specs.Apply.{integer_sum}
+use Rattle.query_meaning.specs.Apply.{integer_sum, value_at}
 use Rattle.row_columns.specs.Picked.{numbered}
 use Rattle.row_eval.specs.Row.{cell, number_in}
 use Rattle.aggregate_rows.specs.Sums.{numbers_at, numbers_in, sum_of, IsKeptAs}
@@ -121,11 +121,15 @@ module _ (kind : NumberKind) (place : ℕ) (rows : List (List CellValue)) (cells
   cell_is : (n : ℕ) → get_or cells n null ≡ cell_of kind (get_or (numbers_of cells) n None)
   cell_is n = ap (λ cs. get_or cs n null) (sym kept.typed) ∙ get_or-map_default (cell_of kind) (numbers_of cells) n None
 
+  pub value_here : (n : ℕ) → value_at (get_or rows n []) place ≡ cell_of kind (get_or (numbers_of cells) n None)
+  value_here n =
+      let none : List CellValue = [] in
+      sym (get_or-map_default (λ (row : List CellValue). get_or row place null) rows n none) ∙ ap (λ cs. get_or cs n null) (sym kept.column) ∙ cell_is n
+
   number_here : (n : ℕ) → cell (number_in kind) (get_or rows n []) place ≡ get_or (numbers_of cells) n None
   number_here n =
       let none : List CellValue = [] in
-      cell_read kind (get_or rows n none) place
-      ∙ ap (number_in kind) (sym (get_or-map_default (λ (row : List CellValue). get_or row place null) rows n none) ∙ ap (λ cs. get_or cs n null) (sym kept.column) ∙ cell_is n)
+      cell_read kind (get_or rows n none) place ∙ ap (number_in kind) (value_here n)
       ∙ number_read kind (get_or (numbers_of cells) n None) ∙ ap number_of (sym (cell_is n))
       ∙ sym (get_or-map_default number_of cells n null)
 

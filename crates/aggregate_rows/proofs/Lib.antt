@@ -3,6 +3,7 @@ pub mod OnceLemmas
 pub mod ExtremeLemmas
 pub mod RowLemmas
 pub mod ValueLemmas
+pub mod DistinctLemmas
 pub mod SumLemmas
 pub mod FitLemmas
 pub mod KeyLemmas

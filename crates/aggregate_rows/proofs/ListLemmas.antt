@@ -1,11 +1,15 @@
--- Lists, and how many different elements they have, where one more comes after them.
-use Rattle.std.proofs.Common.{◌≡◌, ℕ, zero, suc, ◌+◌, ◌<◌, ◌≤◌, Bool, true, false, cond, ◌||◌, List, [], ◌∷◌, ◌++◌, length, get_or, inl, inr, refl, sym, ap, subst, ◌∙◌, arith}
+-- Lists, where one more element comes after them, and lists beside others.
+use Rattle.std.proofs.Common.{◌≡◌, ℕ, zero, suc, ◌+◌, ◌<◌, ◌≤◌, Bool, true, false, ◌||◌, List, [], ◌∷◌, ◌++◌, length, get_or, replicate, inl, inr, refl, sym, ap, subst, ◌∙◌, arith}
 use Rattle.std.specs.Prelude.{slice_set}
 use Rattle.std.specs.List.{AllByRecursion, AllZip, list_any}
-use Rattle.std.specs.Set.{distinct_count, unique_keys}
 use Rattle.std.proofs.lemmas.Bool.{cases_Bool, false≢true}
 use Rattle.std.proofs.lemmas.List.Folds.{list_any-append}
 use Rattle.std.proofs.Math.Bool.{or-false}
+
+pub replicated : {X : Type 0} (n i : ℕ) (x : X) → get_or (replicate n x) i x ≡ x
+replicated zero i x = refl
+replicated (suc n) zero x = refl
+replicated (suc n) (suc i) x = replicated n i x
 
 module _ {X : Type 0} (P : X → Type 0) where
   pub all_front : (xs ys : List X) → AllByRecursion P (xs ++ ys) → AllByRecursion P xs
@@ -32,45 +36,6 @@ module _ {X : Type 0} (eq : X → X → Bool) (is : (a b : X) → eq a b ≡ tru
     | inl t ↦ (let same : b ≡ a = is b a t in absurd (false≢true (sym e ∙ subst (λ z. eq z b ≡ true) same (self b))))
     | inr f ↦ f
   ]
-
-  count_cons : (x : X) (xs : List X) → distinct_count eq (x ∷ xs) ≡ cond (list_any (eq x) xs) (distinct_count eq xs) (suc (distinct_count eq xs))
-  count_cons x xs = by (list_any (eq x) xs)
-    where
-      by : (b : Bool) → length (cond b (unique_keys eq xs) (x ∷ unique_keys eq xs)) ≡ cond b (distinct_count eq xs) (suc (distinct_count eq xs))
-      by true = refl
-      by false = refl
-
-  -- or it is one more
-  pub count_behind : (xs : List X) (y : X) → distinct_count eq (xs ++ y ∷ []) ≡ cond (list_any (eq y) xs) (distinct_count eq xs) (suc (distinct_count eq xs))
-  count_behind [] y = refl
-  count_behind (x ∷ xs) y =
-      count_cons x (xs ++ y ∷ [])
-      ∙ ap (λ b. cond b (distinct_count eq (xs ++ y ∷ [])) (suc (distinct_count eq (xs ++ y ∷ [])))) (member_more xs y x)
-      ∙ ap (λ n. cond (list_any (eq x) xs || eq x y) n (suc n)) (count_behind xs y)
-      ∙ cases
-      ∙ sym (ap (λ n. cond (eq y x || list_any (eq y) xs) n (suc n)) (count_cons x xs))
-    where
-      on : (a b c : Bool) (k : ℕ) → (c ≡ true → a ≡ b) → cond (a || c) (cond b k (suc k)) (suc (cond b k (suc k))) ≡ cond (c || b) (cond a k (suc k)) (suc (cond a k (suc k)))
-      on true true true k h = refl
-      on true true false k h = refl
-      on true false true k h = absurd (false≢true (sym (h refl)))
-      on true false false k h = refl
-      on false true true k h = absurd (false≢true (h refl))
-      on false true false k h = refl
-      on false false true k h = refl
-      on false false false k h = refl
-
-      same_sides : eq x y ≡ eq y x
-      same_sides = elim (cases_Bool (eq x y)) [
-        | inl t ↦ let e : x ≡ y = is x y t in t ∙ sym (subst (λ z. eq y z ≡ true) (sym e) (self y))
-        | inr f ↦ f ∙ sym (turned x y f)
-      ]
-
-      cases : cond (list_any (eq x) xs || eq x y) (cond (list_any (eq y) xs) (distinct_count eq xs) (suc (distinct_count eq xs))) (suc (cond (list_any (eq y) xs) (distinct_count eq xs) (suc (distinct_count eq xs))))
-          ≡ cond (eq y x || list_any (eq y) xs) (cond (list_any (eq x) xs) (distinct_count eq xs) (suc (distinct_count eq xs))) (suc (cond (list_any (eq x) xs) (distinct_count eq xs) (suc (distinct_count eq xs))))
-      cases =
-          on (list_any (eq x) xs) (list_any (eq y) xs) (eq x y) (distinct_count eq xs) (λ t. ap (λ z. list_any (eq z) xs) (is x y t))
-          ∙ ap (λ c. cond (c || list_any (eq y) xs) (cond (list_any (eq x) xs) (distinct_count eq xs) (suc (distinct_count eq xs))) (suc (cond (list_any (eq x) xs) (distinct_count eq xs) (suc (distinct_count eq xs))))) same_sides
 
 -- ---- a list beside another
 

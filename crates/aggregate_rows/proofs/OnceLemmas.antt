@@ -1,10 +1,10 @@
 -- Aggregates of which no two are the same, where one more is asked for.
-use Rattle.std.proofs.Common.{◌≡◌, ℕ, zero, suc, ◌<◌, ◌+◌, List, [], ◌∷◌, ◌++◌, length, map, take, get_or, inl, inr, refl, sym, ap, subst, ◌∙◌, arith}
+use Rattle.std.proofs.Common.{◌≡◌, ℕ, ◌<◌, ◌+◌, List, [], ◌∷◌, ◌++◌, length, map, take, get_or, inl, inr, refl, sym, ap, subst, ◌∙◌, arith}
 use Rattle.std.specs.Prelude.{◌≢◌}
-use Rattle.std.specs.List.{All, AllByRecursion}
+use Rattle.std.specs.List.{AllByRecursion}
 use Rattle.std.proofs.lemmas.Bool.{cases_lt}
-use Rattle.std.proofs.lemmas.List.{length-append, map-append, take_more}
-use Rattle.std.proofs.lemmas.List.Elements.{All-from_recursion, recursion_from_All}
+use Rattle.std.proofs.lemmas.List.{get_or_append_left, get_or_default, get_or_push, length-append, map-append, take_more}
+use Rattle.std.proofs.lemmas.List.Elements.{All-from_recursion, All-push, recursion_from_All}
 use Rattle.odata_query.specs.declared.aggregate.Aggregate.{Aggregate}
 use Rattle.odata_query.specs.declared.aggregate.NamedAggregate.{NamedAggregate}
 use Rattle.odata_query.specs.Aggregate.{named_view}
@@ -12,52 +12,29 @@ use Rattle.odata_query.specs.declared.aggregate.Aggregate.TheVariants.{Count}
 use Rattle.aggregate_rows.specs.Gathered.{plain_aggregates, AreOnce}
 use Rattle.aggregate_rows.specs.Tallies.{aggregates_at}
 
-module _ {X : Type 0} (d : X) where
-  before : (xs : List X) (y : X) (i : ℕ) → i < length xs → get_or (xs ++ y ∷ []) i d ≡ get_or xs i d
-  before [] y i h = absurd (omega arith)
-  before (x ∷ xs) y zero h = refl
-  before (x ∷ xs) y (suc i) h = before xs y i (omega arith)
-
-  last : (xs : List X) (y : X) → get_or (xs ++ y ∷ []) (length xs) d ≡ y
-  last [] y = refl
-  last (x ∷ xs) y = last xs y
-
 -- places within some aggregates, where more come after these
 module _ (once : List Aggregate) (asked : Aggregate) where
   stay : (shown : List ℕ) → AllByRecursion (λ place. place < length once) shown → aggregates_at shown (once ++ asked ∷ []) ≡ aggregates_at shown once
   stay [] within = refl
-  stay (place ∷ shown) within = rw (before Count once asked place within.0, stay shown within.1) refl
-
-one_place_more : (n : ℕ) (shown : List ℕ) (place : ℕ) → All (λ p. p < n) shown → place < n → All (λ p. p < n) (shown ++ place ∷ [])
-one_place_more n shown place within inside =
-    All-from_recursion (λ p. p < n) (shown ++ place ∷ []) (more shown (recursion_from_All (λ p. p < n) shown within))
-  where
-    more : (ps : List ℕ) → AllByRecursion (λ p. p < n) ps → AllByRecursion (λ p. p < n) (ps ++ place ∷ [])
-    more [] a = (inside, tt)
-    more (p ∷ ps) a = (a.0, more ps a.1)
+  stay (place ∷ shown) within = rw (get_or_append_left once (asked ∷ []) Count place within.0, stay shown within.1) refl
 
 -- what is true of all named ones is true of each
 pub true_of_each : (P : Aggregate → Type 0) (named once : List Aggregate) (shown : List ℕ) → AreOnce named once shown → AllByRecursion P named → AllByRecursion P once
 true_of_each P named once shown are all =
     recursion_from_All P once (λ i d h.
     let there = are.no_others i h in
-    subst P (there.2 ∙ within_any once i Count d h) (All-from_recursion P named all there.0 Count there.1))
-  where
-    within_any : (xs : List Aggregate) (i : ℕ) (d e : Aggregate) → i < length xs → get_or xs i d ≡ get_or xs i e
-    within_any [] i d e h = absurd (omega arith)
-    within_any (x ∷ xs) zero d e h = refl
-    within_any (x ∷ xs) (suc i) d e h = within_any xs i d e (omega arith)
+    subst P (there.2 ∙ get_or_default once i Count d h) (All-from_recursion P named all there.0 Count there.1))
 
 module _ (named once : List Aggregate) (shown : List ℕ) (asked : Aggregate) (are : AreOnce named once shown) where
   more_named : (i : ℕ) → i < length once → (j : ℕ) × (j < length (named ++ asked ∷ [])) × (get_or (named ++ asked ∷ []) j Count ≡ get_or once i Count)
   more_named i h =
-      let there = are.no_others i h in (there.0, omega (arith, there.1, length-append named (asked ∷ [])), before Count named asked there.0 there.1 ∙ there.2)
+      let there = are.no_others i h in (there.0, omega (arith, there.1, length-append named (asked ∷ [])), get_or_append_left named (asked ∷ []) Count there.0 there.1 ∙ there.2)
 
   -- it is there already
   pub found : (place : ℕ) → place < length once → get_or once place Count ≡ asked → AreOnce (named ++ asked ∷ []) once (shown ++ place ∷ [])
   found place inside is = record {
     are = map-append (λ p. get_or once p Count) shown (place ∷ []) ∙ ap (λ xs. xs ++ get_or once place Count ∷ []) are.are ∙ ap (λ a. named ++ a ∷ []) is;
-    within = one_place_more (length once) shown place are.within inside;
+    within = All-push (λ p. p < length once) shown place are.within inside;
     differ = are.differ;
     no_others = more_named;
   }
@@ -67,17 +44,17 @@ module _ (named once : List Aggregate) (shown : List ℕ) (asked : Aggregate) (a
   added none = record {
     are = map-append (λ p. get_or (once ++ asked ∷ []) p Count) shown (length once ∷ [])
         ∙ ap (λ xs. xs ++ get_or (once ++ asked ∷ []) (length once) Count ∷ []) (stay once asked shown (recursion_from_All (λ p. p < length once) shown are.within) ∙ are.are)
-        ∙ ap (λ a. named ++ a ∷ []) (last Count once asked);
-    within = one_place_more (length (once ++ asked ∷ [])) shown (length once) (λ k d h. omega (arith, are.within k d h, length-append once (asked ∷ []))) (omega (arith, length-append once (asked ∷ [])));
+        ∙ ap (λ a. named ++ a ∷ []) (get_or_push once asked Count (length once) refl);
+    within = All-push (λ p. p < length (once ++ asked ∷ [])) shown (length once) (λ k d h. omega (arith, are.within k d h, length-append once (asked ∷ []))) (omega (arith, length-append once (asked ∷ [])));
     differ = λ i j less inside. elim (cases_lt j (length once)) [
-      | inl there ↦ (λ same. are.differ i j less there (sym (before Count once asked i (omega (arith, less, there))) ∙ same ∙ before Count once asked j there))
+      | inl there ↦ (λ same. are.differ i j less there (sym (get_or_append_left once (asked ∷ []) Count i (omega (arith, less, there))) ∙ same ∙ get_or_append_left once (asked ∷ []) Count j there))
       | inr past ↦ (let here : j ≡ length once = omega (arith, past, inside, length-append once (asked ∷ [])) in
-          λ same. none i (omega (arith, less, here)) (sym (before Count once asked i (omega (arith, less, here))) ∙ same ∙ ap (λ k. get_or (once ++ asked ∷ []) k Count) here ∙ last Count once asked))
+          λ same. none i (omega (arith, less, here)) (sym (get_or_append_left once (asked ∷ []) Count i (omega (arith, less, here))) ∙ same ∙ ap (λ k. get_or (once ++ asked ∷ []) k Count) here ∙ get_or_push once asked Count (length once) refl))
     ];
     no_others = λ i inside. elim (cases_lt i (length once)) [
-      | inl there ↦ (let old = more_named i there in (old.0, old.1, old.2 ∙ sym (before Count once asked i there)))
+      | inl there ↦ (let old = more_named i there in (old.0, old.1, old.2 ∙ sym (get_or_append_left once (asked ∷ []) Count i there)))
       | inr past ↦ (let here : i ≡ length once = omega (arith, past, inside, length-append once (asked ∷ [])) in
-          (length named, omega (arith, length-append named (asked ∷ [])), last Count named asked ∙ sym (ap (λ k. get_or (once ++ asked ∷ []) k Count) here ∙ last Count once asked)))
+          (length named, omega (arith, length-append named (asked ∷ [])), get_or_push named asked Count (length named) refl ∙ sym (ap (λ k. get_or (once ++ asked ∷ []) k Count) here ∙ get_or_push once asked Count (length once) refl)))
     ];
   }
 

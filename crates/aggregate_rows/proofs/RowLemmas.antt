@@ -27,14 +27,6 @@ row_before rows numbers i some within =
     let next : suc (i - 1) ≡ i = omega arith in
     ap (λ ns. numbered ns rows) (drop-cons numbers (i - 1) 0 (omega arith)) ∙ ap (λ k. slice_index_or rows (get_or numbers (i - 1) 0) [] ∷ numbered (drop k numbers) rows) next
 
--- the values of these rows in a column, where one row more comes before them
-pub values_before : (rows : List (List CellValue)) (numbers : List ℕ) (i place : ℕ) (value : CellValue) → 0 < i → i ≤ length numbers
-    → option_and_then (λ values. slice_get values place) (slice_get rows (get_or numbers (i - 1) 0)) ≡ Some value
-    → map (λ row. value_at row place) (numbered (drop (i - 1) numbers) rows) ≡ value ∷ map (λ row. value_at row place) (numbered (drop i numbers) rows)
-values_before rows numbers i place value some within e =
-    ap (map (λ row. value_at row place)) (row_before rows numbers i some within)
-    ∙ ap (λ v. v ∷ map (λ row. value_at row place) (numbered (drop i numbers) rows)) (value_there rows (get_or numbers (i - 1) 0) place value e)
-
 -- the values of a row in the columns with some places, and in one column more
 pub key_more : (rows : List (List CellValue)) (number : ℕ) (places : List ℕ) (i : ℕ) (key : List Value) (value : Value) {next : List Value} → i < length places
     → option_and_then (λ values. slice_get values (get_or places i 0)) (slice_get rows number) ≡ Some (value_view value) → next ≡ key ++ value ∷ []

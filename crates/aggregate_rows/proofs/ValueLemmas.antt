@@ -1,20 +1,21 @@
 -- The least and the greatest of values, and how many there are, where more come.
-use Rattle.std.proofs.Common.{◌≡◌, ◌↔◌, ℕ, suc, ◌+◌, Bool, true, false, cond, ◌||◌, IsTrue, List, [], ◌∷◌, ◌++◌, length, map, filter, inl, inr, refl, sym, ap, ◌∙◌, arith}
-use Rattle.std.specs.Cmp.{IsTotalOrder}
-use Rattle.std.specs.List.{AllByRecursion, list_any}
-use Rattle.std.specs.Ordering.{is_lt}
-use Rattle.std.specs.Set.{distinct_count}
+use Rattle.std.proofs.Common.{◌≡◌, ◌↔◌, ℕ, Bool, true, false, cond, ◌||◌, IsTrue, List, [], ◌∷◌, ◌++◌, map, filter, inl, inr, refl, sym, ap, ◌∙◌}
+use Rattle.std.specs.Cmp.{both_ways, IsEquivalence, IsTotalOrder}
+use Rattle.std.specs.List.{AllByRecursion, IsDistinct, list_any}
 use Rattle.std.proofs.lemmas.Bool.{cases_Bool}
-use Rattle.std.proofs.lemmas.List.{length-append, map-append}
+use Rattle.std.proofs.lemmas.List.{map-append}
 use Rattle.std.proofs.lemmas.List.Elements.{filter-append}
 use Rattle.std.proofs.lemmas.List.Folds.{list_any-append}
+use Rattle.std.proofs.lemmas.Map.Keys.{IsDistinct-push}
+use Rattle.std.proofs.lemmas.Map.Made.{length-from_keys}
 use Rattle.cell_types.specs.Value.{CellValue, null, value_cmp, value_eq}
-use Rattle.odata_query.specs.declared.aggregate.Aggregate.TheVariants.{Max, Min}
 use Rattle.query_meaning.specs.Apply.{computed_value, is_value, least_value, greatest_value, value_at, present_values}
-use Rattle.aggregate_rows.specs.Computed.{greater_value, lesser_value}
+use Rattle.aggregate_rows.specs.declared.computed.Extreme.{Extreme}
+use Rattle.aggregate_rows.specs.declared.computed.Extreme.TheVariants.{Greatest, Least}
+use Rattle.aggregate_rows.specs.Computed.{aggregate_of, better_value, value_wins}
 use Rattle.aggregate_rows.specs.Tallies.{HasDistinct}
 use Rattle.aggregate_rows.proofs.ExtremeLemmas.{below_trans, not_below, pick, picked}
-use Rattle.aggregate_rows.proofs.ListLemmas.{count_behind, there_already}
+use Rattle.aggregate_rows.proofs.ListLemmas.{there_already}
 
 all_values : (vs : List CellValue) → AllByRecursion (λ v. is_value v ≡ true) (filter is_value vs)
 all_values [] = tt
@@ -79,25 +80,28 @@ module _ (wins : CellValue → CellValue → Bool) where
 
 -- ---- the least and the greatest
 
-pub least_before : (v : CellValue) (vs : List CellValue) → least_value (filter is_value (v ∷ vs)) ≡ lesser_value v (least_value (filter is_value vs))
-least_before = best_before (λ x y. is_lt (value_cmp x y)) least_value refl (λ v. refl) (λ v w ws. refl)
+-- of no rows, of some rows after another one, and of some rows and more
+pub extreme_of_none : (extreme : Extreme) (place : ℕ) → computed_value [] (aggregate_of extreme place) ≡ null
+extreme_of_none Least place = refl
+extreme_of_none Greatest place = refl
 
-pub greatest_before : (v : CellValue) (vs : List CellValue) → greatest_value (filter is_value (v ∷ vs)) ≡ greater_value v (greatest_value (filter is_value vs))
-greatest_before = best_before (λ x y. is_lt (value_cmp y x)) greatest_value refl (λ v. refl) (λ v w ws. refl)
+pub extreme_before : (extreme : Extreme) (place : ℕ) (row : List CellValue) (rows : List (List CellValue))
+    → computed_value (row ∷ rows) (aggregate_of extreme place) ≡ better_value extreme (value_at row place) (computed_value rows (aggregate_of extreme place))
+extreme_before Least place row rows = best_before (value_wins Least) least_value refl (λ v. refl) (λ v w ws. refl) (value_at row place) (map (λ r. value_at r place) rows)
+extreme_before Greatest place row rows = best_before (value_wins Greatest) greatest_value refl (λ v. refl) (λ v w ws. refl) (value_at row place) (map (λ r. value_at r place) rows)
 
 module _ (total : IsTotalOrder value_cmp) (place : ℕ) (rows more : List (List CellValue)) where
-  pub least_joined : computed_value (rows ++ more) (Min place) ≡ lesser_value (computed_value rows (Min place)) (computed_value more (Min place))
-  least_joined =
+  pub extreme_joined : (extreme : Extreme) → computed_value (rows ++ more) (aggregate_of extreme place)
+      ≡ better_value extreme (computed_value rows (aggregate_of extreme place)) (computed_value more (aggregate_of extreme place))
+  extreme_joined Least =
       ap (λ vs. least_value (filter is_value vs)) (map-append (λ row. value_at row place) rows more)
-      ∙ best_joined (λ x y. is_lt (value_cmp x y)) least_value refl (λ v. refl) (λ v w ws. refl)
-      (chosen (λ x y. is_lt (value_cmp x y)) (λ x y z e f. below_trans value_cmp total z y x e f) (λ x y z e f. not_below value_cmp total z y x e f))
+      ∙ best_joined (value_wins Least) least_value refl (λ v. refl) (λ v w ws. refl)
+      (chosen (value_wins Least) (λ x y z e f. below_trans value_cmp total z y x e f) (λ x y z e f. not_below value_cmp total z y x e f))
       (map (λ row. value_at row place) rows) (map (λ row. value_at row place) more)
-
-  pub greatest_joined : computed_value (rows ++ more) (Max place) ≡ greater_value (computed_value rows (Max place)) (computed_value more (Max place))
-  greatest_joined =
+  extreme_joined Greatest =
       ap (λ vs. greatest_value (filter is_value vs)) (map-append (λ row. value_at row place) rows more)
-      ∙ best_joined (λ x y. is_lt (value_cmp y x)) greatest_value refl (λ v. refl) (λ v w ws. refl)
-      (chosen (λ x y. is_lt (value_cmp y x)) (λ x y z e f. below_trans value_cmp total x y z f e) (λ x y z e f. not_below value_cmp total x y z f e))
+      ∙ best_joined (value_wins Greatest) greatest_value refl (λ v. refl) (λ v w ws. refl)
+      (chosen (value_wins Greatest) (λ x y z e f. below_trans value_cmp total x y z f e) (λ x y z e f. not_below value_cmp total x y z f e))
       (map (λ row. value_at row place) rows) (map (λ row. value_at row place) more)
 
 pub values_append : (place : ℕ) (rows more : List (List CellValue)) → present_values place (rows ++ more) ≡ present_values place rows ++ present_values place more
@@ -112,6 +116,10 @@ pub any_view : {V : Type 0} (view : V → CellValue) (eq : V → V → Bool) →
 any_view view eq is v [] = refl
 any_view view eq is v (k ∷ ks) = rw (is v k, any_view view eq is v ks) refl
 
+pub no_keys : HasDistinct [] []
+unfolding IsDistinct
+no_keys = record { distinct = tt; count = refl; same = λ v. refl }
+
 module _ (equal : (a b : CellValue) → IsTrue (value_eq a b) ↔ (a ≡ b)) where
   is : (a b : CellValue) → value_eq a b ≡ true → a ≡ b
   is a b e = (equal a b).0 e
@@ -119,23 +127,25 @@ module _ (equal : (a b : CellValue) → IsTrue (value_eq a b) ↔ (a ≡ b)) whe
   self : (a : CellValue) → value_eq a a ≡ true
   self a = (equal a a).1 refl
 
+  alike : IsEquivalence value_eq
+  alike = record {
+    refl = self;
+    symm = λ v w. both_ways (value_eq v w) (value_eq w v) (λ e. (equal w v).1 (sym (is v w e))) (λ e. (equal v w).1 (sym (is w v e)));
+    congr = λ u v w e. ap (λ x. value_eq x w) (is u v e);
+  }
+
+  -- as many keys as there are different values
+  held : (keys values : List CellValue) → IsDistinct value_eq keys → ((v : CellValue) → list_any (value_eq v) keys ≡ list_any (value_eq v) values) → HasDistinct keys values
+  held keys values distinct same = record { distinct = distinct; same = same; count = length-from_keys alike keys values distinct same }
+
   -- a value that is there already
   pub seen_again : (keys values : List CellValue) (v : CellValue) → HasDistinct keys values → list_any (value_eq v) keys ≡ true → HasDistinct keys (values ++ v ∷ [])
   seen_again keys values v has there =
-      let among : list_any (value_eq v) values ≡ true = sym (has.same v) ∙ there in record {
-        count = has.count ∙ sym (count_behind value_eq is self values v ∙ ap (λ b. cond b (distinct_count value_eq values) (suc (distinct_count value_eq values))) among);
-        same = λ w. has.same w ∙ sym (there_already value_eq is self values v w among);
-      }
+      held keys (values ++ v ∷ []) has.distinct (λ w. has.same w ∙ sym (there_already value_eq is self values v w (sym (has.same v) ∙ there)))
 
   -- a value that is new
   pub seen_first : (keys values : List CellValue) (v : CellValue) → HasDistinct keys values → list_any (value_eq v) keys ≡ false
       → HasDistinct (keys ++ v ∷ []) (values ++ v ∷ [])
   seen_first keys values v has absent =
-      let none : list_any (value_eq v) values ≡ false = sym (has.same v) ∙ absent in record {
-        count = length-append keys (v ∷ []) ∙ one_longer (length keys) ∙ ap suc has.count
-            ∙ sym (count_behind value_eq is self values v ∙ ap (λ b. cond b (distinct_count value_eq values) (suc (distinct_count value_eq values))) none);
-        same = λ w. list_any-append (value_eq w) keys (v ∷ []) ∙ ap (λ b. b || list_any (value_eq w) (v ∷ [])) (has.same w) ∙ sym (list_any-append (value_eq w) values (v ∷ []));
-      }
-    where
-      one_longer : (n : ℕ) → n + 1 ≡ suc n
-      one_longer n = omega arith
+      held (keys ++ v ∷ []) (values ++ v ∷ []) (IsDistinct-push alike keys v has.distinct absent)
+      (λ w. list_any-append (value_eq w) keys (v ∷ []) ∙ ap (λ b. b || list_any (value_eq w) (v ∷ [])) (has.same w) ∙ sym (list_any-append (value_eq w) values (v ∷ [])))

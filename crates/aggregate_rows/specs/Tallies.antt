@@ -1,21 +1,30 @@
 -- What is kept of rows while they come, for each aggregate (OData Data Aggregation 4.0, section 3.1.3).
-use Rattle.std.specs.Prelude.{◌≡◌, ◌<◌, ◌++◌, ◌^◌, ℕ, List, length, map, slice_index_or}
-use Rattle.std.specs.List.{AllByRecursion, AllZip, list_any}
+use Rattle.std.specs.Prelude.{◌≡◌, ◌<◌, ◌++◌, ◌∷◌, ◌^◌, ◌+ℤ◌, ℕ, pos, true, false, filter, List, [], Some, length, map, slice_index_or}
+use Rattle.std.specs.List.{AllByRecursion, AllZip, IsDistinct, list_any}
 use Rattle.std.specs.Set.{distinct_count}
+use Rattle.cell_types.specs.Kind.{cell_of}
 use Rattle.cell_types.specs.Value.{CellValue, value_eq, value_view}
 use Rattle.odata_query.specs.declared.aggregate.Aggregate.{Aggregate}
 use Rattle.odata_query.specs.declared.aggregate.Aggregate.TheVariants.{Count, SumOfIntegers, SumOfDecimals, Min, Max, CountDistinct}
-use Rattle.query_meaning.specs.Apply.{computed_value, present_values}
+use Rattle.query_meaning.specs.Apply.{computed_value, is_value, present_values}
 use Rattle.query_meaning.specs.Fitting.{AreSummable}
 use Rattle.aggregate_rows.specs.declared.accumulator.Accumulator.{Accumulator}
 use Rattle.aggregate_rows.specs.declared.accumulator.Accumulator.TheVariants as accumulator
+use Rattle.aggregate_rows.specs.declared.distinct.Distinct.{Distinct}
 use Rattle.aggregate_rows.specs.Computed.{decimals_in, integers_in}
 use Rattle.aggregate_rows.specs.Sums.{sum_of}
 
 -- values have each of some others once
 pub record HasDistinct (keys values : List CellValue) : Type 0 where
+  pub distinct : IsDistinct value_eq keys
   pub count : length keys ≡ distinct_count value_eq values
   pub same : (v : CellValue) → list_any (value_eq v) keys ≡ list_any (value_eq v) values
+
+-- values have each of some others once, and so do they have the value of each number that has a mark
+pub record HoldsDistinct (distinct : Distinct) (values : List CellValue) : Type 0 where
+  pub has : HasDistinct (map value_view distinct.values.keys) values
+  pub marked : (mark : ℕ) → slice_index_or distinct.marks.items mark false ≡ true
+      → list_any (value_eq (cell_of distinct.kind (Some (distinct.span.least +ℤ pos mark)))) values ≡ true
 
 -- the place of the column of which an accumulator is
 abbrev pub own_place : Accumulator → ℕ
@@ -33,7 +42,7 @@ IsAccumulator (SumOfIntegers place) rows (accumulator.SumOfIntegers own sum) = (
 IsAccumulator (SumOfDecimals place) rows (accumulator.SumOfDecimals own sum) = (own ≡ place) × (sum ≡ sum_of (decimals_in place rows))
 IsAccumulator (Min place) rows (accumulator.Min own value) = (own ≡ place) × (value_view value ≡ computed_value rows (Min place))
 IsAccumulator (Max place) rows (accumulator.Max own value) = (own ≡ place) × (value_view value ≡ computed_value rows (Max place))
-IsAccumulator (CountDistinct place) rows (accumulator.CountDistinct own values) = (own ≡ place) × HasDistinct (map value_view values.keys) (present_values place rows)
+IsAccumulator (CountDistinct place) rows (accumulator.CountDistinct own values) = (own ≡ place) × HoldsDistinct values (present_values place rows)
 IsAccumulator _ _ _ = ⊥
 
 -- of each aggregate
@@ -59,17 +68,16 @@ pub record MayTally (aggregate : Aggregate) (width : ℕ) (old : Accumulator) (m
 abbrev pub Tallies : Aggregate → Accumulator → Accumulator → List (List CellValue) → Type 0
 Tallies aggregate old new more = (rows : List (List CellValue)) → IsAccumulator aggregate rows old → IsAccumulator aggregate (rows ++ more) new
 
--- the least, or the greatest, of the values of some rows becomes that of these and of more
-abbrev pub JoinsExtreme : Aggregate → CellValue → CellValue → List (List CellValue) → Type 0
-JoinsExtreme aggregate old new more = (rows : List (List CellValue)) → old ≡ computed_value rows aggregate → new ≡ computed_value (rows ++ more) aggregate
-
 -- what has each of some values once has each of these and of more
 abbrev pub JoinsDistinct : List CellValue → List CellValue → List CellValue → Type 0
 JoinsDistinct old new more = (seen : List CellValue) → HasDistinct old seen → HasDistinct new (seen ++ more)
 
--- so of the values of rows in a column
-abbrev pub JoinsValues : ℕ → List CellValue → List CellValue → List (List CellValue) → Type 0
-JoinsValues place old new more = (rows : List (List CellValue)) → HasDistinct old (present_values place rows) → HasDistinct new (present_values place (rows ++ more))
+-- so of one value more, and of the values of rows in a column
+abbrev pub JoinsValue : Distinct → Distinct → CellValue → Type 0
+JoinsValue old new value = (seen : List CellValue) → HoldsDistinct old seen → HoldsDistinct new (seen ++ filter is_value (value ∷ []))
+
+abbrev pub JoinsValues : ℕ → Distinct → Distinct → List (List CellValue) → Type 0
+JoinsValues place old new more = (rows : List (List CellValue)) → HoldsDistinct old (present_values place rows) → HoldsDistinct new (present_values place (rows ++ more))
 
 -- the same of each aggregate
 pub record MayTallyEach (aggregates : List Aggregate) (width : ℕ) (old : List Accumulator) (more : List (List CellValue)) : Type 0 where

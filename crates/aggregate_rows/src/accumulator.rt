@@ -1,20 +1,19 @@
 //! What is computed of a column of some rows, to which more may join (OData Data Aggregation 4.0, section 3.1.3): nulls are passed over.
-ghost use Rattle.std.specs.Prelude.{◌≡◌, ◌<◌, ◌++◌, ◌∷◌, [], filter, List, OnOk, if◌then◌else◌, length, map};
+ghost use Rattle.std.specs.Prelude.{◌≡◌, ◌<◌, ◌++◌, [], List, OnOk, length};
 ghost use Rattle.std.specs.List.{All};
 ghost use Rattle.cell_types.specs.Value.{CellValue, value_view};
 ghost use Rattle.odata_query.specs.declared.aggregate.Aggregate.{Aggregate};
-ghost use Rattle.odata_query.specs.declared.aggregate.Aggregate.TheVariants.{Max, Min};
-ghost use Rattle.query_meaning.specs.Apply.{computed_value, is_value};
+ghost use Rattle.query_meaning.specs.Apply.{computed_value};
 ghost use Rattle.row_columns.specs.Picked.{numbered};
-ghost use Rattle.aggregate_rows.specs.Computed.{greater_value, lesser_value};
+ghost use Rattle.aggregate_rows.specs.Computed.{better_value};
 ghost use Rattle.aggregate_rows.specs.Sums.{numbers_in, sum_of, MaySum};
-ghost use Rattle.aggregate_rows.specs.Tallies.{own_place, IsAccumulator, JoinsDistinct, JoinsExtreme, JoinsValues, MayTally, Tallies};
+ghost use Rattle.aggregate_rows.specs.Tallies.{own_place, IsAccumulator, MayTally, Tallies};
 
-use crate::computed::{greatest, is_null, least};
+use crate::computed::{Extreme, extreme_in, wins};
+use crate::distinct::Distinct;
 use crate::kept::sum_of_rows;
 use crate::sums::joined_sum;
 use cell_types::{NumberKind, Value, lent, owned};
-use insertion_map::KeyPlaces;
 use odata_query::Aggregate;
 use row_columns::Columns;
 use row_selection::Selection;
@@ -34,7 +33,7 @@ pub(crate) enum Accumulator {
     /// The greatest of their values in a column; null if they have none.
     Max(usize, Value<'static>),
     /// Their values in a column, each once.
-    CountDistinct(usize, KeyPlaces<Value<'static>>),
+    CountDistinct(usize, Distinct),
 }
 
 impl Accumulator {
@@ -48,9 +47,10 @@ impl Accumulator {
             Aggregate::SumOfDecimals(place) => Accumulator::SumOfDecimals(place, None),
             Aggregate::Min(place) => Accumulator::Min(place, Value::Null),
             Aggregate::Max(place) => Accumulator::Max(place, Value::Null),
-            Aggregate::CountDistinct(place) => {
-                Accumulator::CountDistinct(place, KeyPlaces::new(alloc))
-            }
+            Aggregate::CountDistinct(place) => Accumulator::CountDistinct(
+                place,
+                Distinct::none(alloc),
+            ),
         }
     }
 
@@ -81,6 +81,7 @@ impl Accumulator {
         ensures { OnOk result ((aggregate : Aggregate) → Tallies aggregate self.old self.new
             (numbered numbers.now columns.now.rows)) }
     {
+        cell_types::values_are_ordered();
         let place = self.place();
         match self {
             Accumulator::Count(count) => {
@@ -92,11 +93,15 @@ impl Accumulator {
             Accumulator::SumOfDecimals(_, sum) => {
                 *sum = sum_behind(*sum, columns, numbers, place, NumberKind::Decimal);
             }
-            Accumulator::Min(_, value) => join_least(value, alloc, columns, numbers, place)?,
-            Accumulator::Max(_, value) => join_greatest(value, alloc, columns, numbers, place)?,
-            Accumulator::CountDistinct(_, values) => {
-                join_values(values, alloc, columns, numbers, place)?;
+            Accumulator::Min(_, value) => {
+                let other = extreme_in(columns, numbers, place, Extreme::Least);
+                join_extreme(value, alloc, &other, Extreme::Least)?;
             }
+            Accumulator::Max(_, value) => {
+                let other = extreme_in(columns, numbers, place, Extreme::Greatest);
+                join_extreme(value, alloc, &other, Extreme::Greatest)?;
+            }
+            Accumulator::CountDistinct(_, values) => values.join(alloc, columns, numbers, place)?,
         }
         Ok(())
     }
@@ -114,7 +119,7 @@ impl Accumulator {
             Accumulator::SumOfIntegers(_, None) => Value::Null,
             Accumulator::SumOfDecimals(_, None) => Value::Null,
             Accumulator::Min(_, value) | Accumulator::Max(_, value) => lent(value),
-            Accumulator::CountDistinct(_, values) => Value::Int(values.len() as i128),
+            Accumulator::CountDistinct(_, values) => Value::Int(values.values.len() as i128),
         }
     }
 }
@@ -136,120 +141,18 @@ fn sum_behind(
     joined_sum(sum, sum_of_rows(columns, numbers, place, kind))
 }
 
-/// Makes the least value that some rows have in a column that of these and the rows with these numbers.
-fn join_least(
-    value: &mut Value<'static>,
-    alloc: Global,
-    columns: &Columns,
-    numbers: &Selection,
-    place: usize,
-) -> Result<(), AllocError>
-    requires within { All (λ number. number < length columns.now.rows) numbers.now }
-    requires place { place < length columns.now.kinds }
-    ensures { OnOk result (JoinsExtreme (Min place) (value_view value.old) (value_view value.new)
-        (numbered numbers.now columns.now.rows)) }
-{
-    cell_types::values_are_ordered();
-    let other = least(columns, numbers, place);
-    let wins = is_less(&other, value);
-    replace_if(wins, value, alloc, &other)
-}
-
-/// Makes the greatest value that some rows have in a column that of these and the rows with these numbers.
-fn join_greatest(
-    value: &mut Value<'static>,
-    alloc: Global,
-    columns: &Columns,
-    numbers: &Selection,
-    place: usize,
-) -> Result<(), AllocError>
-    requires within { All (λ number. number < length columns.now.rows) numbers.now }
-    requires place { place < length columns.now.kinds }
-    ensures { OnOk result (JoinsExtreme (Max place) (value_view value.old) (value_view value.new)
-        (numbered numbers.now columns.now.rows)) }
-{
-    cell_types::values_are_ordered();
-    let other = greatest(columns, numbers, place);
-    let wins = is_more(&other, value);
-    replace_if(wins, value, alloc, &other)
-}
-
-/// Replaces a value by a copy of another one, if that `wins`.
-fn replace_if(
-    wins: bool,
+/// Replaces a value by a copy of another one, if that is less, or greater if the greatest is asked for; null is none.
+fn join_extreme(
     value: &mut Value<'static>,
     alloc: Global,
     other: &Value<'_>,
+    extreme: Extreme,
 ) -> Result<(), AllocError>
     ensures { OnOk result (value_view value.new
-        ≡ (if wins then value_view other.now else value_view value.old)) }
+        ≡ better_value extreme (value_view value.old) (value_view other.now)) }
 {
-    if wins {
+    if wins(other, value, extreme) {
         *value = owned(alloc, other)?;
     }
-    Ok(())
-}
-
-/// Returns true if a value is less than another; null is none.
-fn is_less(value: &Value<'_>, other: &Value<'_>) -> bool
-    ensures { (if result then value_view value.now else value_view other.now)
-        ≡ lesser_value (value_view other.now) (value_view value.now) }
-{
-    cell_types::values_compare_as_their_views();
-    if is_null(value) {
-        return false;
-    }
-    is_null(other) || value.cmp(other).is_lt()
-}
-
-/// Returns true if a value is greater than another; null is none.
-fn is_more(value: &Value<'_>, other: &Value<'_>) -> bool
-    ensures { (if result then value_view value.now else value_view other.now)
-        ≡ greater_value (value_view other.now) (value_view value.now) }
-{
-    cell_types::values_compare_as_their_views();
-    if is_null(value) {
-        return false;
-    }
-    is_null(other) || other.cmp(value).is_lt()
-}
-
-/// Adds the values that rows have in a column to those of other rows. A value is looked up before it is copied.
-fn join_values(
-    values: &mut KeyPlaces<Value<'static>>,
-    alloc: Global,
-    columns: &Columns,
-    numbers: &Selection,
-    place: usize,
-) -> Result<(), AllocError>
-    requires within { All (λ number. number < length columns.now.rows) numbers.now }
-    requires place { place < length columns.now.kinds }
-    ensures { OnOk result (JoinsValues place (map value_view values.old.keys)
-        (map value_view values.new.keys) (numbered numbers.now columns.now.rows)) }
-{
-    for i in 0..numbers.len() {
-        join_value(values, alloc, columns.value(numbers.at(i), place))?;
-    }
-    Ok(())
-}
-
-/// Adds a value to others; null is none. It is looked up before it is copied.
-fn join_value(
-    values: &mut KeyPlaces<Value<'static>>,
-    alloc: Global,
-    value: Value<'_>,
-) -> Result<(), AllocError>
-    ensures { OnOk result (JoinsDistinct (map value_view values.old.keys)
-        (map value_view values.new.keys) (filter is_value (value_view value.entry ∷ []))) }
-{
-    cell_types::values_are_ordered();
-    cell_types::values_compare_as_their_views();
-    if is_null(&value) {
-        return Ok(());
-    }
-    if values.contains(&value) {
-        return Ok(());
-    }
-    values.insert(owned(alloc, &value)?)?;
     Ok(())
 }

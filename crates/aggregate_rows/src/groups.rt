@@ -180,7 +180,7 @@ impl Groups {
 }
 
 /// Reads the values that a row has in the columns with these places, in the place of those that were read before.
-fn read_key<'a>(
+pub(crate) fn read_key<'a>(
     key: &mut Vec<Value<'a>>,
     columns: &'a Columns,
     number: usize,

@@ -5,13 +5,14 @@ ghost use Rattle.block_summary.specs.Ranges.{column_of};
 ghost use Rattle.block_summary.specs.Types.{cells_of_kind, numbers_of};
 ghost use Rattle.cell_types.specs.Value.{CellValue, value_view};
 ghost use Rattle.cell_types.specs.declared.kind.NumberKind.{NumberKind};
-ghost use Rattle.odata_query.specs.declared.aggregate.Aggregate.TheVariants.{Max, Min};
 ghost use Rattle.query_meaning.specs.Apply.{computed_value};
 ghost use Rattle.query_meaning.specs.Fitting.{AreSummable};
 ghost use Rattle.row_columns.specs.Picked.{numbered};
 ghost use Rattle.row_eval.specs.Row.{number_in};
+ghost use Rattle.aggregate_rows.specs.Computed.{aggregate_of};
 ghost use Rattle.aggregate_rows.specs.Sums.{numbers_at, numbers_in, sum_of, IsKeptAs};
 
+use crate::computed::Extreme;
 use crate::sums::{joined_sum, sum_of};
 use block_summary::PackedColumn;
 use cell_types::{NumberKind, Value};
@@ -44,43 +45,24 @@ fn whole_column<'a>(
     Some(cells)
 }
 
-/// Returns the least value that these rows have in a column, null if they have none, or `None` if it is not told by how the column is kept. No number is looked at.
-pub(crate) fn kept_least(
+/// Returns the least or the greatest value that these rows have in a column, null if they have none, or `None` if the column is not kept so that it is known. No number is looked at.
+pub(crate) fn kept_extreme(
     columns: &Columns,
     numbers: &Selection,
     place: usize,
+    extreme: Extreme,
 ) -> Option<Value<'static>>
     requires { place < length columns.now.kinds }
     ensures { IfSome result (λ value. value_view value
-        ≡ computed_value (numbered numbers.now columns.now.rows) (Min place)) }
+        ≡ computed_value (numbered numbers.now columns.now.rows) (aggregate_of extreme place)) }
 {
     extremes_are_values();
     cell_types::values_are_ordered();
     let column = whole_column(columns, numbers, place)?;
-    let (least, _greatest) = column.ends();
-    match least {
-        Some(value) => Some(value),
-        None => Some(Value::Null),
-    }
-}
-
-/// Returns the greatest of them.
-pub(crate) fn kept_greatest(
-    columns: &Columns,
-    numbers: &Selection,
-    place: usize,
-) -> Option<Value<'static>>
-    requires { place < length columns.now.kinds }
-    ensures { IfSome result (λ value. value_view value
-        ≡ computed_value (numbered numbers.now columns.now.rows) (Max place)) }
-{
-    extremes_are_values();
-    cell_types::values_are_ordered();
-    let column = whole_column(columns, numbers, place)?;
-    let (_least, greatest) = column.ends();
-    match greatest {
-        Some(value) => Some(value),
-        None => Some(Value::Null),
+    let (least, greatest) = column.ends();
+    match extreme {
+        Extreme::Least => Some(least.unwrap_or(Value::Null)),
+        Extreme::Greatest => Some(greatest.unwrap_or(Value::Null)),
     }
 }
 

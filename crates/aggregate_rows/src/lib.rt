@@ -8,6 +8,7 @@ mod accumulators;
 mod aggregator;
 mod codes;
 mod computed;
+mod distinct;
 mod groups;
 mod kept;
 mod parts;

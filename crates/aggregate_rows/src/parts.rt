@@ -1,7 +1,6 @@
 //! Rows by their groups, before they join.
-ghost use Rattle.std.specs.Prelude.{◌≡◌, ◌<◌, ◌≤◌, ◌^◌, ℕ, [], IfOk, IfSome, List, None, OnOk, Some, length, map, slice_index_or};
+ghost use Rattle.std.specs.Prelude.{◌≡◌, ◌<◌, ◌≤◌, ◌^◌, ℕ, [], IfOk, IfSome, List, None, OnOk, Some, length, slice_index_or};
 ghost use Rattle.std.specs.List.{All, AllByRecursion};
-ghost use Rattle.cell_types.specs.Value.{value_view};
 ghost use Rattle.odata_query.specs.declared.aggregate.Aggregate.{Aggregate};
 ghost use Rattle.query_meaning.specs.Apply.{values_at};
 ghost use Rattle.row_columns.specs.Picked.{numbered};
@@ -10,7 +9,7 @@ ghost use Rattle.aggregate_rows.specs.Parts.{AreGroupsOf, ArePartsFrom, BeginsGr
 
 use crate::accumulators::join_each;
 use crate::codes::key_codes;
-use crate::groups::{Grouping, Groups};
+use crate::groups::{Grouping, Groups, read_key};
 use cell_types::Value;
 use row_columns::Columns;
 use row_selection::Selection;
@@ -24,9 +23,9 @@ const PART_ROWS: usize = 1 << 16;
 
 /// A row of columns.
 #[derive(Clone, Copy)]
-struct RowAt<'a> {
-    columns: &'a Columns,
-    number: usize,
+pub(crate) struct RowAt<'a> {
+    pub(crate) columns: &'a Columns,
+    pub(crate) number: usize,
 }
 
 impl Groups {
@@ -102,10 +101,10 @@ impl Groups {
     }
 
     /// Returns the group of the values of a row.
-    fn group_of_values(
+    fn group_of_values<'a>(
         &mut self,
         alloc: Global,
-        columns: &Columns,
+        columns: &'a Columns,
         number: usize,
         grouping: Grouping<'_>,
     ) -> Result<usize, AllocError>
@@ -116,7 +115,8 @@ impl Groups {
         ensures more { OnOk result (HasGroupMore grouping.entry.aggregates.now self.old self.new
             (values_at grouping.entry.places.now (slice_index_or columns.now.rows number []))) }
     {
-        let key = key_of(alloc, columns, number, grouping.places)?;
+        let mut key: Vec<Value<'a>> = Vec::with_capacity(alloc, grouping.places.len())?;
+        read_key(&mut key, columns, number, grouping.places)?;
         self.group_of(alloc, key.as_slice(), grouping.aggregates)
     }
 
@@ -143,25 +143,6 @@ impl Groups {
         }
         Ok(())
     }
-}
-
-/// Returns the values that a row has in the columns with these places.
-fn key_of<'a>(
-    alloc: Global,
-    columns: &'a Columns,
-    number: usize,
-    places: &[usize],
-) -> Result<Vec<Value<'a>>, AllocError>
-    requires row { number < length columns.now.rows }
-    requires places { All (λ place. place < length columns.now.kinds) places.now }
-    ensures { IfOk result (λ key. map value_view key.items
-        ≡ values_at places.now (slice_index_or columns.now.rows number [])) }
-{
-    let mut key = Vec::with_capacity(alloc, places.len())?;
-    for place in places {
-        key.push(columns.value(number, *place))?;
-    }
-    Ok(key)
 }
 
 /// Returns the numbers of the rows of each group.

@@ -19,4 +19,4 @@ returns-in-Some c =
 pub returns : goal.returns
 returns c =
     let column = c.in-Some-packed.column.now in
-    number-codes-made c.args.place c.args.numbers.now c.args.columns.now.rows column _ c.number_codes.result c.requires.within c.in-Some-packed.ensures c.kind-kind.ensures c.number_codes.ensures
+    number-codes-made c.args.place c.args.numbers.now c.args.columns.now.rows column _ c.number_codes.result (record { column = c.in-Some-packed.ensures; typed = c.kind-kind.ensures }) c.number_codes.ensures

@@ -6,7 +6,7 @@ use Rattle.cell_types.specs.Value.{value_eq, value_view}
 use Rattle.query_meaning.specs.Apply.{is_value}
 use Rattle.aggregate_rows.specs.Tallies.{HasDistinct}
 use Rattle.aggregate_rows.proofs.ValueLemmas.{any_view, seen_again, seen_first}
-use Rattle.aggregate_rows.proofs.accumulator.join_value.Goals as goal
+use Rattle.aggregate_rows.proofs.distinct.join_value.Goals as goal
 
 pub returns-then-contains : goal.returns-then-contains
 returns-then-contains c = λ seen has.
