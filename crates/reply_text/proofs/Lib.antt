@@ -16,3 +16,4 @@ pub mod TurnLemmas
 pub mod CursorLemmas
 pub mod ErrorLemmas
 pub mod WaitingLemmas
+mod ByteLemmas

@@ -3,7 +3,7 @@ use Rattle.std.proofs.Common.{◌≡◌, ℕ, ℤ, pos, negsuc, zero, suc, ◌+�
 use Rattle.std.specs.Fmt.{signed_decimal}
 use Rattle.std.specs.Prelude.{unsigned_abs}
 use Rattle.std.specs.Char.{is_ascii_digit}
-use Rattle.std.specs.List.{list_all, prefix_len}
+use Rattle.std.specs.List.{list_all, prefix_len, AllByRecursion}
 use Rattle.std.proofs.Math.Seq.{drop-append_seam}
 use Rattle.std.proofs.lemmas.Bool.{and_from, and_parts, eqb-true, le-leb, ne_eqb}
 use Rattle.std.proofs.lemmas.Fmt.{decimal_by_steps_wide}
@@ -11,6 +11,7 @@ use Rattle.std.proofs.lemmas.List.{append-nil}
 use Rattle.json.specs.Print.{IsNumber}
 use Rattle.json.specs.Word.{after_digits, after_exponent, after_fraction, after_number, after_whole, head}
 use Rattle.cell_types.specs.Decimal.{decimal_text, fraction_text, is_zero, six_digits, without_last_zeros}
+use Rattle.reply_text.proofs.ByteLemmas.{all-append, all-trimmed}
 
 -- ---- digits
 
@@ -18,12 +19,7 @@ abbrev IsDigit : ℕ → Type 0
 IsDigit d = (48 ≤ d) × (d ≤ 57)
 
 abbrev AreDigits : List ℕ → Type 0
-AreDigits [] = Unit {0}
-AreDigits (d ∷ ds) = IsDigit d × AreDigits ds
-
-digits_append : (front back : List ℕ) → AreDigits front → AreDigits back → AreDigits (front ++ back)
-digits_append [] back f b = b
-digits_append (d ∷ front) back f b = (f.0, digits_append front back f.1 b)
+AreDigits ds = AllByRecursion IsDigit ds
 
 is_digit : (d : ℕ) → IsDigit d → is_ascii_digit d ≡ true
 is_digit d h = and_from _ _ (le-leb 48 d h.0) (le-leb d 57 h.1)
@@ -61,7 +57,7 @@ first_stays (x ∷ ds) d h = h
 
 digit_more : (n : ℕ) (ds : List ℕ) → 10 ≤ n → IsWhole (n / 10) ds → IsWhole n (ds ++ (48 + n % 10) ∷ [])
 digit_more n ds h is = record {
-  digits = digits_append ds ((48 + n % 10) ∷ []) is.digits ((omega arith, omega arith), tt);
+  digits = all-append IsDigit ds ((48 + n % 10) ∷ []) is.digits ((omega arith, omega arith), tt);
   first = λ some. first_stays ds (48 + n % 10) (is.first (omega (arith, h)));
   nought = λ none. absurd (omega (arith, h, none));
 }
@@ -121,14 +117,6 @@ six_are_digits : (n : ℕ) → n < 1_000_000 → AreDigits (six_digits n)
 six_are_digits n h =
     ((omega arith, omega (arith, h)), ((omega arith, omega arith), ((omega arith, omega (arith, h)), ((omega arith, omega arith), ((omega arith, omega (arith, h)), ((omega arith, omega arith), tt))))))
 
-left_digits : (ds : List ℕ) → AreDigits ds → AreDigits (without_last_zeros ds)
-left_digits [] digits = tt
-left_digits (d ∷ ds) digits = by (left_digits ds digits.1) (list_all is_zero (d ∷ ds))
-  where
-    by : AreDigits (without_last_zeros ds) → (t : Bool) → AreDigits (cond t [] (d ∷ without_last_zeros ds))
-    by rest true = tt
-    by rest false = (digits.0, rest)
-
 -- digits of which one is another than 0 leave some
 some_left : (ds : List ℕ) → AreDigits ds → (list_all is_zero ds ≡ true → ⊥) → IsFraction (46 ∷ without_last_zeros ds)
 some_left [] digits some = absurd (some refl)
@@ -136,7 +124,7 @@ some_left (d ∷ ds) digits some = by (list_all is_zero (d ∷ ds)) refl
   where
     by : (t : Bool) → list_all is_zero (d ∷ ds) ≡ t → IsFraction (46 ∷ cond t [] (d ∷ without_last_zeros ds))
     by true all = absurd (some all)
-    by false all = fraction_of d (without_last_zeros ds) (digits.0, left_digits ds digits.1)
+    by false all = fraction_of d (without_last_zeros ds) (digits.0, all-trimmed IsDigit ds digits.1)
 
 nought_at : (ds : List ℕ) → list_all is_zero ds ≡ true → (i : ℕ) → i < length ds → get_or ds i 48 ≡ 48
 nought_at [] all i h = refl

@@ -1,116 +1,18 @@
 -- The texts of JSON trees, as the kit's `json` prints their tokens.
-use Rattle.std.proofs.Common.{◌≡◌, ℕ, zero, suc, ◌<◌, ◌≤◌, ◌⊎◌, inl, inr, Bool, true, false, List, [], ◌∷◌, ◌++◌, refl, sym, ap, ap₂, ◌∙◌, subst, arith, append_assoc, append-nil}
+use Rattle.std.proofs.Common.{◌≡◌, ℕ, Bool, true, false, List, [], ◌∷◌, ◌++◌, refl, sym, ap, ap₂, ◌∙◌, arith, append_assoc, append-nil, tests}
 use Rattle.std.specs.Prelude.{codes, if◌then◌else◌}
 use Rattle.std.specs.List.{flat_map}
-use Rattle.std.proofs.lemmas.Bool.{cases_eq, cases_lt, ne_eqb, le-ltb}
 use Rattle.json.specs.Token.{Token}
 use Rattle.json.specs.Print.{escape, escape_byte, print, print_from, quoted}
 use Rattle.json.specs.Json as json
 use Rattle.json.specs.Tree.{json_tokens, items_tokens, members_tokens}
-use Rattle.json.proofs.Printed.Strings.{escape_byte_plain}
 use Rattle.reply_values.specs.Json.{json_escaped, json_text}
 
 -- ---- texts in quotes
 
--- so it is below a number, counted down from it
-abbrev Each : (ℕ → Type 0) → ℕ → Type 0
-Each P zero = Unit {0}
-Each P (suc n) = P n × Each P n
-
-each_below : (P : ℕ → Type 0) (n : ℕ) → Each P n → (x : ℕ) → x < n → P x
-each_below P zero h x lt = absurd (omega arith)
-each_below P (suc n) h x lt = go (each_below P n h.1 x) (cases_eq x n)
-  where
-    go : (x < n → P x) → (x ≡ n) ⊎ (x ≡ n → ⊥) → P x
-    go below (inl e) = subst P (sym e) h.0
-    go below (inr other) = below (omega arith)
-
-abbrev SameEscape : ℕ → Type 0
-SameEscape x = json_escaped x ≡ escape_byte x
-
-same_controls : Each SameEscape 32
+same_escape : (x : ℕ) → json_escaped x ≡ escape_byte x
 unfolding escape_byte
-same_controls = (
-  refl,
-  (
-    refl,
-    (
-      refl,
-      (
-        refl,
-        (
-          refl,
-          (
-            refl,
-            (
-              refl,
-              (
-                refl,
-                (
-                  refl,
-                  (
-                    refl,
-                    (
-                      refl,
-                      (
-                        refl,
-                        (
-                          refl,
-                          (
-                            refl,
-                            (
-                              refl,
-                              (
-                                refl,
-                                (refl, (refl, (refl, (refl, (refl, (refl, (refl, (refl, (refl, (refl, (refl, (refl, (refl, (refl, (refl, (refl, tt)))))))))))))))),
-                              ),
-                            ),
-                          ),
-                        ),
-                      ),
-                    ),
-                  ),
-                ),
-              ),
-            ),
-          ),
-        ),
-      ),
-    ),
-  ),
-)
-
-same_quote : SameEscape 34
-unfolding escape_byte
-same_quote = refl
-
-same_backslash : SameEscape 92
-unfolding escape_byte
-same_backslash = refl
-
-same_plain : (x : ℕ) → (x ≡ 34 → ⊥) → (x ≡ 92 → ⊥) → 32 ≤ x → SameEscape x
-same_plain x q b l =
-    let plain : json_escaped x ≡ x ∷ [] =
-    rw (
-      ne_eqb x 34 q,
-      ne_eqb x 92 b,
-      ne_eqb x 8 (λ e. omega arith),
-      ne_eqb x 12 (λ e. omega arith),
-      ne_eqb x 10 (λ e. omega arith),
-      ne_eqb x 13 (λ e. omega arith),
-      ne_eqb x 9 (λ e. omega arith),
-      le-ltb x 32 l,
-    ) in
-    plain ∙ sym (escape_byte_plain x q b l)
-
-same_escape : (x : ℕ) → SameEscape x
-same_escape x = go (cases_eq x 34) (cases_eq x 92) (cases_lt x 32)
-  where
-    go : (x ≡ 34) ⊎ (x ≡ 34 → ⊥) → (x ≡ 92) ⊎ (x ≡ 92 → ⊥) → (x < 32) ⊎ (32 ≤ x) → SameEscape x
-    go (inl e) b c = subst SameEscape (sym e) same_quote
-    go (inr q) (inl e) c = subst SameEscape (sym e) same_backslash
-    go (inr q) (inr b) (inl c) = each_below SameEscape 32 same_controls x c
-    go (inr q) (inr b) (inr l) = same_plain x q b l
+same_escape x = grind (arith, tests)
 
 same_escapes : (s : List ℕ) → flat_map json_escaped s ≡ escape s
 same_escapes [] = refl

@@ -1,21 +1,22 @@
 -- The lines of rows are lines of the grammar.
 use Rattle.std.proofs.Common.{◌≡◌, ℕ, zero, suc, ◌+◌, ◌<◌, ◌≤◌, ◌/◌, ◌%◌, Bool, true, false, cond, eqb, ltb, ℤ, pos, negsuc, List, [], ◌∷◌, ◌++◌, length, map, None, refl, sym, ap, ap₂, ◌∙◌, append-nil, arith, tests}
-use Rattle.std.specs.Prelude.{IsTrue, ◌||◌, not, ◌==◌}
+use Rattle.std.specs.Prelude.{IsTrue, ◌||◌, not, ◌==◌, unsigned_abs}
 use Rattle.std.proofs.lemmas.Bool.{false≢true, or_parts}
-use Rattle.std.specs.List.{flat_map, join_with_byte, list_all, list_any, AllByRecursion}
+use Rattle.std.specs.List.{flat_map, join_with_byte, list_any, AllByRecursion}
 use Rattle.std.specs.Fmt.{digit_glyph, digits_onto, digits, decimal, signed_decimal}
 use Rattle.csv_grammar.specs.Bytes.{comma, carriage_return, line_feed}
 use Rattle.csv_grammar.specs.Records.{Field, unquoted, quoted, crlf, Line, is_plain, doubled, content, print_field, print_record, print_line, IsField, IsRecord, AreRecords}
 use Rattle.cell_types.specs.Date.{two_digits}
-use Rattle.cell_types.specs.Decimal.{decimal_text, fraction_text, is_zero, millionths_text, six_digits, without_last_zeros}
+use Rattle.cell_types.specs.Decimal.{decimal_text, fraction_text, millionths_text, six_digits, without_last_zeros}
 use Rattle.cell_types.specs.Value as cell
 use Rattle.cell_types.specs.Value.{CellValue, null, integer, text, boolean, date}
 use Rattle.result_rows.specs.Rows.{RowsOf}
-use Rattle.jiff_fmt.specs.Text.{year_text, pad2}
+use Rattle.jiff_fmt.specs.Text.{pad2}
 use Rattle.reply_values.specs.Value.{bool_text, day_text}
 use Rattle.reply_text.specs.Csv.{csv_line, row_line, csv_text}
 use Rattle.reply_values.specs.Csv.{is_quoted_byte, needs_quotes, doubled_byte}
 use Rattle.reply_values.specs.Printed.{csv_value}
+use Rattle.reply_text.proofs.ByteLemmas.{all-append, all-day, all-trimmed}
 use Rattle.reply_text.specs.Laws.{value_text, value_is_quoted, is_quoted, IsPlainName, FitCsv, SaysRows}
 
 -- ---- texts of numbers
@@ -23,10 +24,6 @@ use Rattle.reply_text.specs.Laws.{value_text, value_is_quoted, is_quoted, IsPlai
 -- bytes above the comma
 abbrev pub AreAbove : List ℕ → Type 0
 AreAbove bytes = AllByRecursion (λ b. 45 ≤ b) bytes
-
-above_append : (front back : List ℕ) → AreAbove front → AreAbove back → AreAbove (front ++ back)
-above_append [] back f b = b
-above_append (x ∷ front) back f b = (f.0, above_append front back f.1 b)
 
 glyph_above : (d : ℕ) → 45 ≤ digit_glyph false d
 glyph_above d = by (ltb d 10)
@@ -55,43 +52,26 @@ signed_above (negsuc n) = (omega arith, decimal_above (suc n))
 pad2_above : (n : ℕ) → AreAbove (pad2 n)
 pad2_above n = (omega arith, (omega arith, tt))
 
-year_above : (year : ℤ) → AreAbove (year_text year)
-year_above (pos n) = above_append (pad2 (n / 100)) (pad2 (n % 100)) (pad2_above (n / 100)) (pad2_above (n % 100))
-year_above (negsuc n) =
-    let digits = above_append (pad2 (suc n / 100)) (pad2 (suc n % 100)) (pad2_above (suc n / 100)) (pad2_above (suc n % 100)) in
-    (omega arith, (omega arith, (omega arith, digits)))
-
 day_above : (year : ℤ) (month day : ℕ) → AreAbove (day_text year month day)
 day_above year month day =
-    let hyphen : AreAbove (45 ∷ []) = (omega arith, tt) in
-    let to_month = above_append (year_text year ++ 45 ∷ []) (pad2 month) (above_append (year_text year) (45 ∷ []) (year_above year) hyphen) (pad2_above month) in
-    above_append (year_text year ++ 45 ∷ [] ++ pad2 month ++ 45 ∷ []) (pad2 day)
-    (above_append (year_text year ++ 45 ∷ [] ++ pad2 month) (45 ∷ []) to_month hyphen) (pad2_above day)
+    all-day (λ b. 45 ≤ b) year month day (omega arith) (omega arith) (pad2_above (unsigned_abs year / 100)) (pad2_above (unsigned_abs year % 100)) (pad2_above month) (pad2_above day)
 
 two_above : (n : ℕ) → AreAbove (two_digits n)
 two_above n = (omega arith, (omega arith, tt))
 
 six_above : (n : ℕ) → AreAbove (six_digits n)
-six_above n = above_append (two_digits (n / 10_000)) (two_digits (n % 10_000 / 100) ++ two_digits (n % 10_000 % 100)) (two_above (n / 10_000))
-    (above_append (two_digits (n % 10_000 / 100)) (two_digits (n % 10_000 % 100)) (two_above (n % 10_000 / 100)) (two_above (n % 10_000 % 100)))
-
-trimmed_above : (ds : List ℕ) → AreAbove ds → AreAbove (without_last_zeros ds)
-trimmed_above [] above = tt
-trimmed_above (d ∷ ds) above = by (trimmed_above ds above.1) (list_all is_zero (d ∷ ds))
-  where
-    by : AreAbove (without_last_zeros ds) → (t : Bool) → AreAbove (cond t [] (d ∷ without_last_zeros ds))
-    by rest true = tt
-    by rest false = (above.0, rest)
+six_above n = all-append (λ b. 45 ≤ b) (two_digits (n / 10_000)) (two_digits (n % 10_000 / 100) ++ two_digits (n % 10_000 % 100)) (two_above (n / 10_000))
+    (all-append (λ b. 45 ≤ b) (two_digits (n % 10_000 / 100)) (two_digits (n % 10_000 % 100)) (two_above (n % 10_000 / 100)) (two_above (n % 10_000 % 100)))
 
 fraction_above : (n : ℕ) → AreAbove (fraction_text n)
 fraction_above n = by (eqb n 0)
   where
     by : (t : Bool) → AreAbove (cond t [] (46 ∷ without_last_zeros (six_digits n)))
     by true = tt
-    by false = (omega arith, trimmed_above (six_digits n) (six_above n))
+    by false = (omega arith, all-trimmed (λ b. 45 ≤ b) (six_digits n) (six_above n))
 
 number_above : (n : ℕ) → AreAbove (millionths_text n)
-number_above n = above_append (decimal (n / 1_000_000)) (fraction_text (n % 1_000_000)) (decimal_above (n / 1_000_000)) (fraction_above (n % 1_000_000))
+number_above n = all-append (λ b. 45 ≤ b) (decimal (n / 1_000_000)) (fraction_text (n % 1_000_000)) (decimal_above (n / 1_000_000)) (fraction_above (n % 1_000_000))
 
 millionths_above : (z : ℤ) → AreAbove (decimal_text z)
 unfolding decimal_text
@@ -145,56 +125,24 @@ doubled_same (b ∷ bytes) = by (eqb b 34) (doubled_same bytes)
     by true same = ap (λ w. 34 ∷ 34 ∷ w) same
     by false same = ap (λ w. b ∷ w) same
 
--- it is a field of the grammar
-field_is : (value : CellValue) → IsField (field_of value)
-field_is null = tt
-field_is (integer number) = plain-from_above (signed_decimal number) (signed_above number)
+-- it is a field of the grammar, what is written of the value, and says the value
+record IsFieldOf (field : Field) (value : CellValue) : Type 0 where
+  valid : IsField field
+  printed : print_field field ≡ csv_value value
+  says : content field ≡ value_text value
+  quotes : is_quoted field ≡ value_is_quoted value
+
+field_is : (value : CellValue) → IsFieldOf (field_of value) value
+field_is null = record { valid = tt; printed = refl; says = refl; quotes = refl }
+field_is (integer number) = record { valid = plain-from_above (signed_decimal number) (signed_above number); printed = refl; says = refl; quotes = refl }
 field_is (text bytes) = by (needs_quotes bytes) refl
   where
-    by : (t : Bool) → needs_quotes bytes ≡ t → IsField (text_field t bytes)
-    by true e = tt
-    by false e = plain_text bytes (or_parts (length bytes == 0) (list_any is_quoted_byte bytes) e).1
-field_is (boolean truth) = plain_bool truth
-field_is (date year month day) = plain-from_above (day_text year month day) (day_above year month day)
-field_is (cell.decimal millionths) = plain-from_above (decimal_text millionths) (millionths_above millionths)
-
--- and what is written of the value
-print_field_of : (value : CellValue) → print_field (field_of value) ≡ csv_value value
-print_field_of null = refl
-print_field_of (integer number) = refl
-print_field_of (text bytes) = by (needs_quotes bytes)
-  where
-    by : (t : Bool) → print_field (text_field t bytes) ≡ cond t (34 ∷ flat_map doubled_byte bytes ++ 34 ∷ []) bytes
-    by true = ap (λ w. 34 ∷ w ++ 34 ∷ []) (sym (doubled_same bytes))
-    by false = refl
-print_field_of (boolean truth) = refl
-print_field_of (date year month day) = refl
-print_field_of (cell.decimal millionths) = refl
-
--- it says the value
-field_content : (value : CellValue) → content (field_of value) ≡ value_text value
-field_content null = refl
-field_content (integer number) = refl
-field_content (text bytes) = by (needs_quotes bytes)
-  where
-    by : (t : Bool) → content (text_field t bytes) ≡ bytes
-    by true = refl
-    by false = refl
-field_content (boolean truth) = refl
-field_content (date year month day) = refl
-field_content (cell.decimal millionths) = refl
-
-field_is_quoted : (value : CellValue) → is_quoted (field_of value) ≡ value_is_quoted value
-field_is_quoted null = refl
-field_is_quoted (integer number) = refl
-field_is_quoted (text bytes) = by (needs_quotes bytes)
-  where
-    by : (t : Bool) → is_quoted (text_field t bytes) ≡ t
-    by true = refl
-    by false = refl
-field_is_quoted (boolean truth) = refl
-field_is_quoted (date year month day) = refl
-field_is_quoted (cell.decimal millionths) = refl
+    by : (t : Bool) → needs_quotes bytes ≡ t → IsFieldOf (text_field (needs_quotes bytes) bytes) (text bytes)
+    by true e = record { valid = rw e tt; printed = rw e (ap (λ w. 34 ∷ w ++ 34 ∷ []) (sym (doubled_same bytes))); says = rw e refl; quotes = rw e refl }
+    by false e = record { valid = rw e (plain_text bytes (or_parts (length bytes == 0) (list_any is_quoted_byte bytes) e).1); printed = rw e refl; says = rw e refl; quotes = rw e refl }
+field_is (boolean truth) = record { valid = plain_bool truth; printed = refl; says = refl; quotes = refl }
+field_is (date year month day) = record { valid = plain-from_above (day_text year month day) (day_above year month day); printed = refl; says = refl; quotes = refl }
+field_is (cell.decimal millionths) = record { valid = plain-from_above (decimal_text millionths) (millionths_above millionths); printed = refl; says = refl; quotes = refl }
 
 -- ---- records
 
@@ -216,7 +164,7 @@ row_fields values = map field_of values
 
 fields_are : (values : List CellValue) → AllByRecursion IsField (row_fields values)
 fields_are [] = tt
-fields_are (value ∷ values) = (field_is value, fields_are values)
+fields_are (value ∷ values) = ((field_is value).valid, fields_are values)
 
 names_are : (names : List (List ℕ)) → AllByRecursion IsPlainName names → AllByRecursion IsField (map unquoted names)
 names_are [] plain = tt
@@ -234,7 +182,7 @@ abbrev pub records_of_rows : RowsOf → List (List Field)
 records_of_rows rows = map unquoted rows.names ∷ map row_fields rows.rows
 
 print_row : (values : List CellValue) → print_line (line_of (row_fields values)) ≡ row_line values
-print_row values = ap (λ w. w ++ carriage_return ∷ line_feed ∷ []) (print_record_of field_of csv_value print_field_of values)
+print_row values = ap (λ w. w ++ carriage_return ∷ line_feed ∷ []) (print_record_of field_of csv_value (λ value. (field_is value).printed) values)
 
 print_names : (names : List (List ℕ)) → print_line (line_of (map unquoted names)) ≡ csv_line names
 print_names names =
@@ -281,9 +229,9 @@ rows_are_records rows lines = record {
 -- which say what the rows do
 pub records_say_rows : (rows : RowsOf) → SaysRows rows (records_of_rows rows)
 records_say_rows rows = record {
-  contents = ap₂ (λ a b. a ∷ b) (names_content rows.names) (map_same (map content) row_fields (map value_text) (map_same content field_of value_text field_content) rows.rows);
+  contents = ap₂ (λ a b. a ∷ b) (names_content rows.names) (map_same (map content) row_fields (map value_text) (map_same content field_of value_text (λ value. (field_is value).says)) rows.rows);
   quotes = ap₂ (λ a b. a ∷ b) (map_same is_quoted unquoted (λ name. false) (λ name. refl) rows.names)
-      (map_same (map is_quoted) row_fields (map value_is_quoted) (map_same is_quoted field_of value_is_quoted field_is_quoted) rows.rows);
+      (map_same (map is_quoted) row_fields (map value_is_quoted) (map_same is_quoted field_of value_is_quoted (λ value. (field_is value).quotes)) rows.rows);
 }
   where
     names_content : (names : List (List ℕ)) → map content (map unquoted names) ≡ names
