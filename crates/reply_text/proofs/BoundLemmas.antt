@@ -1,5 +1,5 @@
 -- How many bytes pieces take, and the longest of them.
-use Rattle.std.proofs.Common.{◌≡◌, ℕ, zero, suc, ◌+◌, ◌-◌, ◌^◌, ◌<◌, ◌≤◌, List, [], ◌∷◌, ◌++◌, drop, get_or, length, take, refl, sym, ap, ◌∙◌, subst, arith, length-append}
+use Rattle.std.proofs.Common.{◌≡◌, ℕ, zero, suc, ◌+◌, ◌-◌, ◌^◌, ◌<◌, ◌≤◌, List, [], ◌∷◌, ◌++◌, drop, get_or, length, take, sym, ap, ◌∙◌, subst, arith, length-append}
 use Rattle.std.specs.Prelude.{max}
 use Rattle.std.specs.List.{AllByRecursion, concat}
 use Rattle.std.proofs.lemmas.List.{append-nil, drop_more, take_more}
@@ -14,9 +14,6 @@ longest_more (first ∷ pieces) piece = omega (arith, longest_more pieces piece)
 all_more : (pieces : List (List ℕ)) (piece : List ℕ) → length (concat (pieces ++ piece ∷ [])) ≡ length (concat pieces) + length piece
 all_more pieces piece =
     ap length (concat-append pieces (piece ∷ []) ∙ ap (λ l. concat pieces ++ l) (append-nil piece)) ∙ length-append (concat pieces) piece
-
-pub no_sizes : AreSizesOf [] 0 0
-no_sizes = record { counted = refl; most = refl }
 
 -- one piece more
 pub sizes_more : (pieces : List (List ℕ)) (place all longest size now most : ℕ) → place < length pieces → AreSizesOf (take place pieces) all longest

@@ -35,12 +35,6 @@ zip_at (name ∷ names) (value ∷ values) (suc col) n v h e =
     let inside = rest.0 in
     (omega (arith, inside), rest.1)
 
-pub length_zip : (names : List (List ℕ)) (values : List CellValue) → length values ≡ length names → length (zip names values) ≡ length names
-length_zip [] [] e = refl
-length_zip [] (value ∷ values) e = absurd (omega arith)
-length_zip (name ∷ names) [] e = absurd (omega arith)
-length_zip (name ∷ names) (value ∷ values) e = ap suc (length_zip names values (omega arith))
-
 -- one member more after its comma
 pub member_more : (names : List (List ℕ)) (values : List CellValue) (col : ℕ) (name : List ℕ) (value : CellValue) (start before between after : List ℕ)
     → col < length names → length values ≡ length names → name ≡ get_or names col name → get_or values col value ≡ value

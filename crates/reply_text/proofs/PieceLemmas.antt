@@ -1,6 +1,6 @@
 -- The pieces of bodies of rows: which is at a place, and that all of them are the body.
-use Rattle.std.proofs.Common.{◌≡◌, ℕ, zero, suc, ◌+◌, ◌-◌, ◌<◌, ◌≤◌, List, [], ◌∷◌, ◌++◌, codes, get_or, length, map, refl, sym, ap, ◌∙◌, add-one, arith, tests, append_assoc, length-append}
-use Rattle.std.specs.List.{AllByRecursion, concat, flat_map, join_with_byte}
+use Rattle.std.proofs.Common.{◌≡◌, ℕ, zero, suc, ◌+◌, ◌-◌, ◌<◌, ◌≤◌, List, [], ◌∷◌, ◌++◌, codes, get_or, length, map, refl, sym, ap, ◌∙◌, arith, tests, append_assoc, length-append}
+use Rattle.std.specs.List.{AllByRecursion, concat, join_with_byte}
 use Rattle.std.proofs.lemmas.List.{append-nil, get_or-map, length-map}
 use Rattle.cell_types.specs.Value.{CellValue}
 use Rattle.result_rows.specs.Rows.{RowsOf}
@@ -9,6 +9,7 @@ use Rattle.reply_text.specs.Csv.{csv_line, csv_text, row_line}
 use Rattle.reply_text.specs.Json.{comma_before, json_row}
 use Rattle.reply_text.specs.Pieces.{csv_pieces, json_items, json_opening, json_pieces}
 use Rattle.reply_values.specs.Printed.{csv_value}
+use Rattle.reply_text.proofs.SizeLemmas.{flat_is_concat}
 
 -- ---- which is at a place
 
@@ -34,36 +35,25 @@ item_is names rows row inside =
     let same : 0 + row ≡ row = omega arith in
     item_at names 0 rows row inside ∙ ap (λ k. comma_before k ++ json_row names (get_or rows row [])) same
 
-pub json_at : (rows : RowsOf) (row : ℕ) → row < length rows.rows → get_or (json_pieces rows) (row + 1) [] ≡ comma_before row ++ json_row rows.names (get_or rows.rows row [])
-json_at rows row inside = ap (λ n. get_or (json_pieces rows) n []) (add-one row) ∙ item_is rows.names rows.rows row inside
-
-pub json_end : (rows : RowsOf) → get_or (json_pieces rows) (length rows.rows + 1) [] ≡ codes "]}"
-json_end rows = ap (λ n. get_or (json_pieces rows) n []) (add-one (length rows.rows)) ∙ end_at rows.names 0 rows.rows
-
 -- the same by the number of the piece
 pub json_piece : (rows : RowsOf) (number : ℕ) → 0 < number → number - 1 < length rows.rows
     → get_or (json_pieces rows) number [] ≡ comma_before (number - 1) ++ json_row rows.names (get_or rows.rows (number - 1) [])
 json_piece rows number some inside =
-    let same : number ≡ number - 1 + 1 = omega (arith, some) in
-    ap (λ n. get_or (json_pieces rows) n []) same ∙ json_at rows (number - 1) inside
+    let same : number ≡ suc (number - 1) = omega (arith, some) in
+    ap (λ n. get_or (json_pieces rows) n []) same ∙ item_is rows.names rows.rows (number - 1) inside
 
 pub json_last : (rows : RowsOf) (number : ℕ) → 0 < number → length rows.rows ≤ number - 1 → number < length (json_pieces rows) → get_or (json_pieces rows) number [] ≡ codes "]}"
-json_last rows number some past inside =
-    let same : number ≡ length rows.rows + 1 = omega (arith, some, past, inside, items_count rows.names 0 rows.rows) in
-    ap (λ n. get_or (json_pieces rows) n []) same ∙ json_end rows
-
-pub csv_at : (rows : RowsOf) (row : ℕ) → row < length rows.rows → get_or (csv_pieces rows) (row + 1) [] ≡ row_line (get_or rows.rows row [])
-csv_at rows row inside = ap (λ n. get_or (csv_pieces rows) n []) (add-one row) ∙ get_or-map row_line rows.rows row [] [] inside
-
-pub csv_count : (rows : RowsOf) → length (csv_pieces rows) ≡ length rows.rows + 1
-csv_count rows = omega (arith, length-map rows.rows row_line)
+json_last rows zero some past inside = absurd (omega (arith, some))
+json_last rows (suc row) some past inside =
+    let same : row ≡ length rows.rows = omega (arith, past, inside, items_count rows.names 0 rows.rows) in
+    ap (λ n. get_or (json_items rows.names 0 rows.rows) n []) same ∙ end_at rows.names 0 rows.rows
 
 pub csv_piece : (rows : RowsOf) (number : ℕ) → 0 < number → number < length (csv_pieces rows)
     → (number - 1 < length rows.rows) × (get_or (csv_pieces rows) number [] ≡ row_line (get_or rows.rows (number - 1) []))
 csv_piece rows number some within =
-    let inside : number - 1 < length rows.rows = omega (arith, some, within, csv_count rows) in
-    let same : number ≡ number - 1 + 1 = omega (arith, some) in
-    (inside, ap (λ n. get_or (csv_pieces rows) n []) same ∙ csv_at rows (number - 1) inside)
+    let inside : number - 1 < length rows.rows = omega (arith, some, within, length-map rows.rows row_line) in
+    let same : number ≡ suc (number - 1) = omega (arith, some) in
+    (inside, ap (λ n. get_or (csv_pieces rows) n []) same ∙ get_or-map row_line rows.rows (number - 1) [] [] inside)
 
 -- ---- none is empty
 
@@ -118,9 +108,5 @@ json_is_pieces rows =
     ap (λ l. json_opening rows.count ++ l) (first_items rows.names rows.rows)
     ∙ sym (append_assoc (json_opening rows.count) (join_with_byte 44 (map (json_row rows.names) rows.rows)) (codes "]}"))
 
-lines_are : (rows : List (List CellValue)) → concat (map row_line rows) ≡ flat_map row_line rows
-lines_are [] = refl
-lines_are (row ∷ rows) = ap (λ l. row_line row ++ l) (lines_are rows)
-
 pub csv_is_pieces : (rows : RowsOf) → concat (csv_pieces rows) ≡ csv_text rows
-csv_is_pieces rows = ap (λ l. csv_line rows.names ++ l) (lines_are rows.rows)
+csv_is_pieces rows = ap (λ l. csv_line rows.names ++ l) (flat_is_concat row_line rows.rows)

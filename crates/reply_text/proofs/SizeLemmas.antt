@@ -1,7 +1,6 @@
 -- Lengths as 64 bits have them, and lengths of texts that are written piece by piece.
-use Rattle.std.proofs.Common.{◌≡◌, ◌<◌, ◌≤◌, ◌==◌, ℕ, suc, ◌+◌, ◌-◌, Bool, true, false, cond, List, [], ◌∷◌, ◌++◌, length, map, take, get_or, codes, refl, ap, ◌∙◌, arith, length-append}
+use Rattle.std.proofs.Common.{◌≡◌, ◌≤◌, ◌==◌, ℕ, suc, ◌+◌, ◌-◌, Bool, true, false, cond, List, [], ◌∷◌, ◌++◌, length, map, codes, refl, ap, ◌∙◌, arith, length-append}
 use Rattle.std.specs.List.{concat, flat_map, join_with_byte, zip}
-use Rattle.std.proofs.lemmas.List.{take_more}
 use Rattle.reply_text.specs.Csv.{csv_line, row_line}
 use Rattle.cell_types.specs.Value.{CellValue}
 use Rattle.reply_text.specs.Json.{comma_before, json_member, json_row}
@@ -12,39 +11,8 @@ use Rattle.reply_values.specs.Size.{told}
 
 -- ---- sums that stop at the greatest number, by parts that did
 
-pub told_one : (size v n after : ℕ) → v ≡ told n → after ≡ told (size + v) → after ≡ told (size + n)
-told_one size v n after e f = omega (arith, e, f)
-
 pub told_frame : (v n commas first after whole : ℕ) → v ≡ told n → first ≡ told (v + commas) → after ≡ told (first + 2) → whole ≡ n + commas + 2 → after ≡ told whole
 told_frame v n commas first after whole e f g h = omega (arith, e, f, g, h)
-
--- ---- items
-
-pub length-flat_push : {X Y : Type 0} (f : X → List Y) (xs : List X) (x : X) → length (flat_map f (xs ++ x ∷ [])) ≡ length (flat_map f xs) + length (f x)
-length-flat_push f [] x = omega (arith, length-append (f x) [])
-length-flat_push f (first ∷ xs) x =
-    let behind = length-flat_push f xs x in
-    omega (arith, length-append (f first) (flat_map f (xs ++ x ∷ [])), length-append (f first) (flat_map f xs), behind)
-
--- one item more, of `n` bytes
-one_longer : {X : Type 0} (f : X → List ℕ) (xs : List X) (d : X) (place n : ℕ) → place < length xs → length (f (get_or xs place d)) ≡ n
-    → length (flat_map f (take (place + 1) xs)) ≡ length (flat_map f (take place xs)) + n
-one_longer f xs d place n within is =
-    ap (λ l. length (flat_map f l)) (take_more xs place d within) ∙ length-flat_push f (take place xs) (get_or xs place d) ∙ ap (λ k. length (flat_map f (take place xs)) + k) is
-
-pub item_told : {X : Type 0} (f : X → List ℕ) (xs : List X) (d : X) (place size after n : ℕ) → place < length xs → size ≡ told (length (flat_map f (take place xs))) → length (f (get_or xs place d)) ≡ n
-    → after ≡ told (size + n) → after ≡ told (length (flat_map f (take (place + 1) xs)))
-item_told f xs d place size after n within so_far is after_is = omega (arith, one_longer f xs d place n within is, so_far, after_is)
-
--- the same after a start
-pub item_after : {X : Type 0} (f : X → List ℕ) (xs : List X) (d : X) (start place size after n : ℕ) → place < length xs → size ≡ told (start + length (flat_map f (take place xs))) → length (f (get_or xs place d)) ≡ n
-    → after ≡ told (size + n) → after ≡ told (start + length (flat_map f (take (place + 1) xs)))
-item_after f xs d start place size after n within so_far is after_is = omega (arith, one_longer f xs d place n within is, so_far, after_is)
-
--- the same of numbers of bytes that items do not pass
-pub item_fits : {X : Type 0} (f : X → List ℕ) (xs : List X) (d : X) (start place size room after n : ℕ) → place < length xs → told (start + length (flat_map f (take place xs))) ≤ size → length (f (get_or xs place d)) ≡ n
-    → told n ≤ room → after ≡ told (size + room) → told (start + length (flat_map f (take (place + 1) xs))) ≤ after
-item_fits f xs d start place size room after n within so_far is fits after_is = omega (arith, one_longer f xs d place n within is, so_far, fits, after_is)
 
 -- ---- commas
 
@@ -87,11 +55,12 @@ members (name ∷ names) [] e = absurd (omega arith)
 members (name ∷ names) (value ∷ values) e =
     one_member (json_text name) (codes ":") (json_value value) (flat_map json_member (zip names values)) (flat_map member_name names) (flat_map json_value values) (members names values (omega arith))
 
-zipped : (names : List (List ℕ)) (values : List CellValue) → length values ≡ length names → length (zip names values) ≡ length names
-zipped [] [] e = refl
-zipped [] (value ∷ values) e = absurd (omega arith)
-zipped (name ∷ names) [] e = absurd (omega arith)
-zipped (name ∷ names) (value ∷ values) e = ap suc (zipped names values (omega arith))
+-- the members of a row are as many as its names
+pub length_zip : (names : List (List ℕ)) (values : List CellValue) → length values ≡ length names → length (zip names values) ≡ length names
+length_zip [] [] e = refl
+length_zip [] (value ∷ values) e = absurd (omega arith)
+length_zip (name ∷ names) [] e = absurd (omega arith)
+length_zip (name ∷ names) (value ∷ values) e = ap suc (length_zip names values (omega arith))
 
 -- braces around a text
 braced : (inside : List ℕ) → length (codes "{" ++ inside ++ codes "}") ≡ length inside + 2
@@ -103,7 +72,7 @@ length-frame names = omega (arith, braced (join_with_byte 44 (map member_name na
 pub length-row : (names : List (List ℕ)) (values : List CellValue) → length values ≡ length names
     → length (json_row names values) ≡ length (row_frame names) + length (flat_map json_value values)
 length-row names values e =
-    omega (arith, braced (join_with_byte 44 (map json_member (zip names values))), length-joined json_member (zip names values), members names values e, zipped names values e, length-frame names)
+    omega (arith, braced (join_with_byte 44 (map json_member (zip names values))), length-joined json_member (zip names values), members names values e, length_zip names values e, length-frame names)
 
 -- a row by its frame and its values, after what stands before it
 pub object_told : (names : List (List ℕ)) (values : List CellValue) (before : List ℕ) (frame size : ℕ) → length values ≡ length names → frame ≡ told (length (row_frame names))

@@ -1,4 +1,4 @@
-use Rattle.std.proofs.Common.{◌≡◌, ◌+◌, ◌<◌, length, sym, ap, subst, ◌∙◌, arith}
+use Rattle.std.proofs.Common.{◌≡◌, ◌+◌, ◌<◌, length, sym, subst, ◌∙◌, arith}
 use Rattle.reply_text.specs.RowSizes.{CountFirst}
 use Rattle.reply_text.proofs.BoundLemmas.{sizes_more}
 use Rattle.reply_text.proofs.counted.with_few.Goals as goal

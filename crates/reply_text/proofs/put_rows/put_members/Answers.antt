@@ -6,7 +6,8 @@ use Rattle.reply_text.specs.Json.{comma_before, json_member}
 use Rattle.reply_values.specs.Printed.{json_value}
 use Rattle.reply_text.proofs.CsvLemmas.{piece_within}
 use Rattle.reply_text.proofs.HeadLemmas.{head_there, member_behind}
-use Rattle.reply_text.proofs.MemberLemmas.{length_zip, member_more, row_width, value_in_lent}
+use Rattle.reply_text.proofs.MemberLemmas.{member_more, row_width, value_in_lent}
+use Rattle.reply_text.proofs.SizeLemmas.{length_zip}
 use Rattle.reply_text.proofs.put_rows.put_members.Goals as goal
 
 pub put_member-end-requires : goal.put_member-end-requires
