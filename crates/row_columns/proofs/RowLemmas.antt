@@ -150,11 +150,10 @@ table_row_long (c ∷ columns) (v ∷ row) h = omega (arith, table_row_long colu
 pub numbered_wide : (columns : List ColumnOf) (rows : List (List CellValue)) (numbers : List ℕ) → All (IsTableRow columns) rows → All (λ n. n < length rows) numbers
     → AllByRecursion (λ (row : List CellValue). length row ≡ length columns) (numbered numbers rows)
 numbered_wide columns rows [] all within = tt
-numbered_wide columns rows (n ∷ numbers) all within =
-    (
-      table_row_long columns (get_or rows n []) (all n [] (within 0 0 (omega arith))),
-      numbered_wide columns rows numbers all (λ k d h. within (suc k) d (omega (arith, h))),
-    )
+numbered_wide columns rows (n ∷ numbers) all within = (
+  table_row_long columns (get_or rows n []) (all n [] (within 0 0 (omega arith))),
+  numbered_wide columns rows numbers all (λ k d h. within (suc k) d (omega (arith, h))),
+)
 
 -- ---- rows are taken
 
