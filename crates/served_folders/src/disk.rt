@@ -102,10 +102,7 @@ impl<'a, R: Files> Disk<'a, R> {
     {
         match taking.step(alloc, self.files, self.follows) {
             Ok(Step::On(taking)) => Ok(Stage::Files(taking)),
-            Ok(Step::Over(taken)) => match Tables::start(alloc, taken) {
-                Ok(tables) => Ok(Stage::Tables(tables)),
-                Err(fault) => Err(FolderFault::Load(fault)),
-            },
+            Ok(Step::Over(taken)) => Ok(Stage::Tables(Tables::start(alloc, taken)?)),
             Err(fault) => Err(self.counted(fault)),
         }
     }
@@ -124,16 +121,15 @@ impl<'a, R: Files> Disk<'a, R> {
             (⟦<Disk<'a, R> as Folders>⟧.folders self.new) result }
     {
         match loading.stage {
-            Stage::Files(taking) => match self.take_on(alloc, taking) {
-                Ok(stage) => Ok(DiskLoaded::On(DiskLoading { stage })),
-                Err(fault) => Err(fault),
-            },
-            Stage::Tables(tables) => match tables.step(alloc) {
-                Ok(TablesLoaded::On(tables)) => Ok(DiskLoaded::On(DiskLoading {
+            Stage::Files(taking) => {
+                let stage = self.take_on(alloc, taking)?;
+                Ok(DiskLoaded::On(DiskLoading { stage }))
+            }
+            Stage::Tables(tables) => match tables.step(alloc)? {
+                TablesLoaded::On(tables) => Ok(DiskLoaded::On(DiskLoading {
                     stage: Stage::Tables(tables),
                 })),
-                Ok(TablesLoaded::Over(catalog)) => Ok(DiskLoaded::Over(catalog)),
-                Err(fault) => Err(FolderFault::Load(fault)),
+                TablesLoaded::Over(catalog) => Ok(DiskLoaded::Over(catalog)),
             },
         }
     }
@@ -154,16 +150,8 @@ impl<'a, R: Files> Disk<'a, R> {
         let mut stage = loading.stage;
         loop {
             match stage {
-                Stage::Files(taking) => match self.take_on(alloc, taking) {
-                    Ok(on) => stage = on,
-                    Err(fault) => return Err(fault),
-                },
-                Stage::Tables(tables) => {
-                    return match tables.finish(alloc) {
-                        Ok(catalog) => Ok(catalog),
-                        Err(fault) => Err(FolderFault::Load(fault)),
-                    };
-                }
+                Stage::Files(taking) => stage = self.take_on(alloc, taking)?,
+                Stage::Tables(tables) => return Ok(tables.finish(alloc)?),
             }
         }
     }
@@ -173,10 +161,7 @@ impl<'a, R: Files> Disk<'a, R> {
         ensures { IfOk result (λ names. AreFileNames (map string_bytes names.items)) }
     {
         match take_metadata(alloc, self.files, self.follows, folder) {
-            Ok(Some(meta)) => match names_of(alloc, meta.as_slice()) {
-                Ok(names) => Ok(names),
-                Err(_) => Err(FolderFault::NoMemory),
-            },
+            Ok(Some(meta)) => Ok(names_of(alloc, meta.as_slice())?),
             Ok(None) => Err(FolderFault::NoMetadata),
             Err(TakeFault::Device) => Err(FolderFault::Device),
             Err(TakeFault::NoMemory) => Err(FolderFault::NoMemory),
@@ -194,9 +179,7 @@ impl<'a, R: Files> Folders for Disk<'a, R> {
 
     /// Returns the catalog of the folder at that path.
     fn load(&mut self, alloc: Global, name: &str) -> Result<Catalog, FolderFault> {
-        match self.begin(alloc, name) {
-            Ok(loading) => self.finish(alloc, loading),
-            Err(fault) => Err(fault),
-        }
+        let loading = self.begin(alloc, name)?;
+        self.finish(alloc, loading)
     }
 }

@@ -22,6 +22,26 @@ pub enum FolderFault {
     NoMemory,
 }
 
+impl From<AllocError> for FolderFault {
+    ghost use Rattle.served_folders.specs.declared.folders.FolderFault.TheVariants.{NoMemory};
+
+    ghost from_gives = { λ _ fault. fault ≡ NoMemory };
+
+    fn from(_: AllocError) -> FolderFault {
+        FolderFault::NoMemory
+    }
+}
+
+impl From<LoadFault> for FolderFault {
+    ghost use Rattle.served_folders.specs.declared.folders.FolderFault.TheVariants.{Load};
+
+    ghost from_gives = { λ fault made. made ≡ Load fault };
+
+    fn from(fault: LoadFault) -> FolderFault {
+        FolderFault::Load(fault)
+    }
+}
+
 /// Where folders are loaded from, by their names.
 pub trait Folders {
     /// What the last load under a name took, if that is known, and the counts of loads and of two answers.
@@ -87,12 +107,8 @@ fn load_notes(alloc: Global) -> Result<Catalog, LoadFault>
     ensures tables { IfOk result (Means notes_folder) }
     ensures fault { IfErr result (λ e. IfSome (load_cause e) (IsRefused notes_folder)) }
 {
-    let Ok(meta) = Vec::from_slice(alloc, NOTES_METADATA.as_bytes()) else {
-        return Err(LoadFault::NoMemory);
-    };
-    let Ok(file) = notes_file(alloc) else {
-        return Err(LoadFault::NoMemory);
-    };
+    let meta = Vec::from_slice(alloc, NOTES_METADATA.as_bytes())?;
+    let file = notes_file(alloc)?;
     let Ok(files) = vec![in alloc; file] else {
         return Err(LoadFault::NoMemory);
     };
@@ -114,9 +130,6 @@ impl Folders for BuiltIn {
             self.others = self.others.saturating_add(1);
             return Err(FolderFault::NoMetadata);
         }
-        match load_notes(alloc) {
-            Ok(catalog) => Ok(catalog),
-            Err(fault) => Err(FolderFault::Load(fault)),
-        }
+        Ok(load_notes(alloc)?)
     }
 }
