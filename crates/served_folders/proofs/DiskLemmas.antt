@@ -1,14 +1,13 @@
 -- What is read of a file, and the files of schemas.
-use Rattle.std.proofs.Common.{◌≡◌, ◌≤◌, ◌<◌, ◌+◌, ◌⊎◌, ℕ, List, [], ◌∷◌, ◌++◌, length, map, take, get_or, Option, Some, None, refl, sym, ap, subst, ◌∙◌, inl, inr, append-nil, arith}
+use Rattle.std.proofs.Common.{◌≡◌, ◌≤◌, ◌<◌, ◌+◌, ◌⊎◌, ℕ, List, [], ◌∷◌, ◌++◌, length, take, Option, Some, None, sym, ap, subst, ◌∙◌, inl, inr, append-nil, arith}
 use Rattle.std.specs.Prelude.{IfSome}
 use Rattle.std.specs.Io.KnownBytes.{Consumes, IsAtEnd}
 use Rattle.std.proofs.Math.Nat.{eq-or-lt_of_le}
 use Rattle.std.proofs.Math.Seq.{take-append-add, take-append_seam}
-use Rattle.std.proofs.lemmas.List.{append_assoc, take-take, take-append-le, take_all, map_more}
-use Rattle.csvw_meta.specs.declared.schema.Schema.{Schema}
-use Rattle.csvw_meta.specs.Schema.{SchemaOf, schema_view}
+use Rattle.std.proofs.lemmas.List.{append_assoc, take-take, take-append-le, take_all}
+use Rattle.csvw_meta.specs.Schema.{SchemaOf}
 use Rattle.table_store.specs.File.{FileOf}
-use Rattle.served_folders.specs.Disk.{IsFileOf, AreFilesOf}
+use Rattle.served_folders.specs.Disk.{AreFilesOf}
 
 -- bytes that are read after others are written over the room there
 pub read_over : (old now room post rest new : List ℕ) (start count long : ℕ) → start ≡ length old → take start now ≡ old → count ≤ length room
@@ -65,25 +64,3 @@ joined (schema ∷ xs) ys fs gs h k =
       | inl missing ↦ inl (joined xs ys fs gs missing k)
       | inr found ↦ inr (found.0, found.1 ++ gs, ap (λ (files : List FileOf). files ++ gs) found.2, found.3, joined xs ys found.1 gs found.4 k)
     ]
-
-module _ (tables : List Schema) (i : ℕ) (table : Schema) (less : i < length tables) (at : table ≡ get_or tables i table) where
-  schemas_more : map schema_view (take (i + 1) tables) ≡ map schema_view (take i tables) ++ schema_view table ∷ []
-  schemas_more =
-      map_more schema_view tables i table less
-      ∙ ap (λ (x : Schema). map schema_view (take i tables) ++ schema_view x ∷ []) (sym at)
-
-  -- the file of one more schema is missing
-  pub one_missing : (files : List FileOf) → AreFilesOf (map schema_view (take i tables)) files → AreFilesOf (map schema_view (take (i + 1) tables)) files
-  one_missing files h =
-      let last : AreFilesOf (schema_view table ∷ []) [] = inl refl in
-      subst (λ (schemas : List SchemaOf). AreFilesOf schemas files) (sym schemas_more)
-      (subst (AreFilesOf (map schema_view (take i tables) ++ schema_view table ∷ [])) (append-nil files)
-      (joined (map schema_view (take i tables)) (schema_view table ∷ []) files [] h last))
-
-  -- the file of one more schema was found
-  pub one_found : (files : List FileOf) (file : FileOf) → IsFileOf (schema_view table) file → AreFilesOf (map schema_view (take i tables)) files
-      → AreFilesOf (map schema_view (take (i + 1) tables)) (files ++ file ∷ [])
-  one_found files file is h =
-      let last : AreFilesOf (schema_view table ∷ []) (file ∷ []) = inr (file, [], refl, is, refl) in
-      subst (λ (schemas : List SchemaOf). AreFilesOf schemas (files ++ file ∷ [])) (sym schemas_more)
-      (joined (map schema_view (take i tables)) (schema_view table ∷ []) files (file ∷ []) h last)

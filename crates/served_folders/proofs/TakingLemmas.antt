@@ -1,5 +1,5 @@
 -- Files of schemas that are taken one after another.
-use Rattle.std.proofs.Common.{ℕ, List, [], ◌∷◌, ◌++◌, refl, sym, subst, inl, inr, append-nil}
+use Rattle.std.proofs.Common.{ℕ, List, [], ◌∷◌, ◌++◌, refl, sym, subst, inr, append-nil}
 use Rattle.std.proofs.lemmas.List.{append_assoc}
 use Rattle.csvw_meta.specs.Document.{schemas_of}
 use Rattle.csvw_meta.specs.Schema.{SchemaOf}
@@ -20,10 +20,6 @@ module _ (meta : List ℕ) (files : List FileOf) where
     named = λ others k.
         subst (AreNamed meta) (sym (append_assoc files (file ∷ []) others)) (h.named (file ∷ others) (inr (file, others, refl, is, k)));
   }
-
-  -- the file of one more schema is missing
-  pub none_taken : (schema : SchemaOf) (coming : List SchemaOf) → AreTakenBefore meta files (schema ∷ coming) → AreTakenBefore meta files coming
-  none_taken schema coming h = record { most = h.most; named = λ others k. h.named others (inl k) }
 
   -- no file is to come
   pub all_taken : AreTakenBefore meta files [] → AreTaken meta files
