@@ -1,9 +1,9 @@
 -- The columns of a block.
-use Rattle.std.proofs.Common.{◌≡◌, inl, inr, ℕ, zero, suc, ◌+◌, ◌<◌, ◌≤◌, Bool, true, false, Option, Some, None, List, [], ◌∷◌, ◌++◌, length, get_or, refl, sym, ap, ◌∙◌, subst, arith}
+use Rattle.std.proofs.Common.{◌≡◌, inl, inr, ℕ, suc, ◌+◌, ◌<◌, ◌≤◌, Bool, true, false, Option, Some, None, List, [], ◌∷◌, ◌++◌, length, get_or, refl, sym, ap, ◌∙◌, subst, arith}
 use Rattle.std.specs.Prelude.{option_and_then, if◌then◌else◌, slice_get}
 use Rattle.std.proofs.lemmas.Bool.{cases_eq, cases_lt}
 use Rattle.std.proofs.lemmas.List.{get_or_past, get_or_push, get_or_append_left, get_or-map, length_push}
-use Rattle.std.proofs.lemmas.Option.{slice_get-get_or}
+use Rattle.std.proofs.lemmas.Option.{get_or_from_slice_get, slice_get_within, slice_get-get_or}
 use Rattle.block_eval.specs.declared.columns.BlockColumn.{BlockColumn}
 use Rattle.block_eval.specs.declared.columns.BlockColumn.TheVariants.{Packed}
 use Rattle.block_eval.specs.Columns.{cell_in_column}
@@ -21,11 +21,6 @@ use Rattle.table_store.specs.Table.{TableOf}
 use Rattle.block_filter.specs.Lanes.{AreColumnsOf, AreTextsOf, AreValuesOf, IsColumnOf}
 
 -- ---- the columns of a block
-
-got : {X : Type 0} (xs : List X) (i : ℕ) (x : X) → slice_get xs i ≡ Some x → (i < length xs) × (get_or xs i x ≡ x)
-got [] i x e = absurd (cc)
-got (y ∷ xs) zero x e = (omega arith, cc)
-got (y ∷ xs) (suc i) x e = let is = got xs i x e in (omega (arith, is.0), is.1)
 
 -- a column is as a block keeps it
 pub packed_kept : (rows : List (List CellValue)) (place : ℕ) (column : Bor (List CellValue)) → AreValuesOf rows place (Some column.now) → IsColumnOf rows place (Packed column)
@@ -54,13 +49,13 @@ pub columns_are : (rows : List (List CellValue)) (columns : List BlockColumn) (i
 columns_are rows columns i is row h =
     record {
       each = λ place column at.
-          let there = got columns place column at in
-          is.each place column (omega (arith, there.0, is.long)) row h ∙ ap (λ c. Some (cell_in_column c row)) there.1;
+          is.each place column (omega (arith, slice_get_within columns place column at, is.long)) row h
+          ∙ ap (λ c. Some (cell_in_column c row)) (get_or_from_slice_get columns place column column at);
     }
 
 -- ---- the texts of a block
 
-row_wide : (columns : List ColumnOf) (row : List CellValue) → IsTableRow columns row → length row ≡ length columns
+pub row_wide : (columns : List ColumnOf) (row : List CellValue) → IsTableRow columns row → length row ≡ length columns
 row_wide [] [] h = refl
 row_wide [] (v ∷ row) h = absurd h
 row_wide (c ∷ columns) [] h = absurd h

@@ -5,6 +5,7 @@ use Rattle.std.specs.List.{All, list_any}
 use Rattle.std.proofs.Math.Bool.{or-false}
 use Rattle.std.proofs.lemmas.Bool.{cases_lt}
 use Rattle.std.proofs.lemmas.List.{get_or-set_other, get_or-set_same, take_all, take_more}
+use Rattle.std.proofs.lemmas.Option.{get_or_from_slice_get, slice_get_within}
 use Rattle.cell_types.specs.Column.{ColumnOf}
 use Rattle.cell_types.specs.Rows.{IsTableRow}
 use Rattle.cell_types.specs.Value.{CellValue, null}
@@ -14,6 +15,7 @@ use Rattle.row_eval.specs.Outcome.{truth_outcome}
 use Rattle.query_meaning.specs.Filter.{faults, is_true, passes}
 use Rattle.block_filter.specs.Marks.{marked}
 use Rattle.block_filter.specs.Passing.{Narrows}
+use Rattle.block_filter.proofs.LaneLemmas.{row_wide}
 use Rattle.block_filter.proofs.NarrowLemmas.{one_more}
 
 -- ---- one row after another
@@ -80,31 +82,20 @@ none_is (Some truth) false e = refl
 -- ---- the values of a row
 
 module _ (col : ℕ) (value : CellValue) where
-  value_there : (values : List CellValue) (n : ℕ) → slice_get values n ≡ Some value → (n < length values) × (get_or values n null ≡ value)
-  value_there [] n e = absurd (cc)
-  value_there (v ∷ values) zero e = (omega arith, cc)
-  value_there (v ∷ values) (suc n) e = let rest = value_there values n e in let within = rest.0 in (omega (arith, within), rest.1)
-
-  row_there : (rows : List (List CellValue)) (row : ℕ) → option_and_then (λ values. slice_get values col) (slice_get rows row) ≡ Some value
-      → (col < length (get_or rows row [])) × (get_or (get_or rows row []) col null ≡ value)
+  row_there : (rows : List (List CellValue)) (row : ℕ) → option_and_then (λ values. slice_get values col) (slice_get rows row) ≡ Some value → slice_get (get_or rows row []) col ≡ Some value
   row_there [] row e = absurd (cc)
-  row_there (r ∷ rows) zero e = value_there r col e
+  row_there (r ∷ rows) zero e = e
   row_there (r ∷ rows) (suc row) e = row_there rows row e
 
   pub value_read : (rows : List (List CellValue)) (row : ℕ) (values : List CellValue) → values ≡ take col (get_or rows row [])
       → option_and_then (λ values. slice_get values col) (slice_get rows row) ≡ Some value → values ++ value ∷ [] ≡ take (col + 1) (get_or rows row [])
   value_read rows row values so_far e =
       let there = row_there rows row e in
-      ap (λ vs. vs ++ value ∷ []) so_far ∙ ap (λ v. take col (get_or rows row []) ++ v ∷ []) (sym there.1) ∙ sym (take_more (get_or rows row []) col null there.0)
-
-row_long : (schema : List ColumnOf) (row : List CellValue) → IsTableRow schema row → length row ≡ length schema
-row_long [] [] fits = refl
-row_long [] (v ∷ row) fits = absurd fits
-row_long (c ∷ schema) [] fits = absurd fits
-row_long (c ∷ schema) (v ∷ row) fits = ap suc (row_long schema row fits.2)
+      ap (λ vs. vs ++ value ∷ []) so_far ∙ ap (λ v. take col (get_or rows row []) ++ v ∷ []) (sym (get_or_from_slice_get (get_or rows row []) col value null there))
+      ∙ sym (take_more (get_or rows row []) col null (slice_get_within (get_or rows row []) col value there))
 
 pub row_read : (schema : List ColumnOf) (rows : List (List CellValue)) (row width : ℕ) (values : List CellValue) → All (IsTableRow schema) rows → row < length rows → length schema ≤ width
     → values ≡ take width (get_or rows row []) → values ≡ get_or rows row []
 row_read schema rows row width values fits inside wide so_far =
-    let long = row_long schema (get_or rows row []) (fits row [] inside) in
+    let long = row_wide schema (get_or rows row []) (fits row [] inside) in
     so_far ∙ take_all width (get_or rows row []) (omega (arith, long, wide))
