@@ -1,4 +1,4 @@
-use Rattle.std.proofs.Common.{◌≡◌, ℕ, List, get_or, ap, sym, ◌∙◌, arith}
+use Rattle.std.proofs.Common.{◌≡◌, ℕ, ◌+◌, ◌-◌, List, get_or, ap, sym, ◌∙◌, arith}
 use Rattle.cell_types.specs.Value.{CellValue, null, text}
 use Rattle.text_columns.specs.Search.{HasPart}
 use Rattle.row_columns.proofs.BlockLemmas.{part_texts}
