@@ -1,9 +1,10 @@
 -- Groups and what is computed of their rows, where rows join.
-use Rattle.std.proofs.Common.{◌≡◌, ◌↔◌, ℕ, ◌<◌, ◌+◌, Bool, true, false, cond, not, IsTrue, Option, Some, None, List, [], ◌∷◌, ◌++◌, Vec, Global, length, map, filter, take, drop, get_or, refl, sym, ap, subst, ◌∙◌, append_assoc, arith}
+use Rattle.std.proofs.Common.{◌≡◌, ◌↔◌, ℕ, ◌<◌, ◌+◌, not, IsTrue, Option, Some, None, List, [], ◌∷◌, ◌++◌, Vec, Global, length, map, filter, take, drop, get_or, refl, sym, ap, subst, ◌∙◌, append_assoc, arith}
 use Rattle.std.specs.Prelude.{slice_index_or}
 use Rattle.std.specs.List.{AllByRecursion}
 use Rattle.std.proofs.lemmas.List.{get_or-map, length-append, length-map, map-append, take_more, take-append-drop}
-use Rattle.std.proofs.lemmas.List.Elements.{recursion_from_All}
+use Rattle.std.proofs.lemmas.List.Elements.{All-map}
+use Rattle.cell_types.proofs.ListLaws.{AllByRecursion-filter}
 use Rattle.cell_types.specs.Value.{CellValue, value_eq, value_view}
 use Rattle.cell_types.specs.declared.value.Value.{Value}
 use Rattle.odata_query.specs.declared.aggregate.Aggregate.{Aggregate}
@@ -70,17 +71,9 @@ one_row_fits width before rows numbers i aggregates h fits =
 
 -- ---- the rows that are given
 
-kept_wide : (n : ℕ) (keeps : List CellValue → Bool) (vs : List (List CellValue)) → AllByRecursion (λ v. length v ≡ n) vs → AllByRecursion (λ v. length v ≡ n) (filter keeps vs)
-kept_wide n keeps [] a = tt
-kept_wide n keeps (v ∷ vs) a = by (keeps v) (kept_wide n keeps vs a.1)
-  where
-    by : (b : Bool) → AllByRecursion (λ v. length v ≡ n) (filter keeps vs) → AllByRecursion (λ v. length v ≡ n) (cond b (v ∷ filter keeps vs) (filter keeps vs))
-    by true h = (a.0, h)
-    by false h = h
-
 seen_wide : (n : ℕ) (vs : List (List CellValue)) → AllByRecursion (λ v. length v ≡ n) vs → AllByRecursion (λ v. length v ≡ n) (first_seen same_values vs)
 seen_wide n [] a = tt
-seen_wide n (v ∷ vs) a = (a.0, kept_wide n (λ w. not (same_values v w)) (first_seen same_values vs) (seen_wide n vs a.1))
+seen_wide n (v ∷ vs) a = (a.0, AllByRecursion-filter (λ w. length w ≡ n) (λ w. not (same_values v w)) (first_seen same_values vs) (seen_wide n vs a.1))
 
 rows_wide : (places : List ℕ) (rows : List (List CellValue)) → AllByRecursion (λ v. length v ≡ length places) (map (values_at places) rows)
 rows_wide places [] = tt
@@ -152,11 +145,6 @@ module _ (places : Option (List ℕ)) (shown : List Aggregate) (rows : List (Lis
 
 -- ---- rows join
 
-plain_fit : (P : Aggregate → Type 0) (aggregates : List NamedAggregateOf) → AllByRecursion (λ (a : NamedAggregateOf). P a.aggregate) aggregates
-    → AllByRecursion P (map (λ a. a.aggregate) aggregates)
-plain_fit P [] a = tt
-plain_fit P (n ∷ aggregates) a = (a.0, plain_fit P aggregates a.1)
-
 pub groups_may_join : (aggregator : Aggregator) (width : ℕ) (more : List (List CellValue)) (may : MayJoin aggregator width more) (places : Option (List ℕ)) (aggregates : List Aggregate)
     → optional_numbers aggregator.places ≡ places → aggregates ≡ aggregator.aggregates.items → MayJoinGroups places aggregates width aggregator.groups more
 groups_may_join aggregator width more may places aggregates places_are aggregates_are = record {
@@ -164,8 +152,8 @@ groups_may_join aggregator width more may places aggregates places_are aggregate
   has = subst (λ ps. HasGroups ps aggregates aggregator.groups may.rows) (sym may.gathers.places_are ∙ places_are)
       (subst (λ plain. HasGroups may.places plain aggregator.groups may.rows) (sym aggregates_are) may.gathers.groups_are);
   fits = subst (AllByRecursion (FitsAll width (may.rows ++ more))) (sym aggregates_are)
-      (true_of_each (FitsAll width (may.rows ++ more)) (plain_aggregates may.aggregates) aggregator.aggregates.items aggregator.shown.items may.gathers.aggregates_are (plain_fit (FitsAll width (may.rows ++ more)) may.aggregates
-      (recursion_from_All (λ (a : NamedAggregateOf). FitsAll width (may.rows ++ more) a.aggregate) may.aggregates may.fits)));
+      (true_of_each (FitsAll width (may.rows ++ more)) (plain_aggregates may.aggregates) aggregator.aggregates.items aggregator.shown.items may.gathers.aggregates_are
+      (All-map (FitsAll width (may.rows ++ more)) (λ a. a.aggregate) may.aggregates may.fits));
 }
 
 pub groups_join : (old new : Aggregator) (more : List (List CellValue)) (places : Option (List ℕ)) (aggregates : List Aggregate) → new.places ≡ old.places

@@ -2,7 +2,7 @@
 use Rattle.std.proofs.Common.{◌≡◌, ℕ, ◌<◌, true, false, cond, Some, List, [], ◌∷◌, ◌++◌, Vec, Global, length, map, get_or, position, inl, inr, refl, sym, ap, subst, ◌∙◌, append_assoc, arith}
 use Rattle.std.specs.Prelude.{slice_set}
 use Rattle.std.specs.List.{AllByRecursion, AllZip, IsDistinct, list_any}
-use Rattle.std.proofs.lemmas.List.{append-nil, get_or-map, length-map, map-append}
+use Rattle.std.proofs.lemmas.List.{append-nil, get_or_push, get_or-map, length_push, length-map, map-append}
 use Rattle.std.proofs.lemmas.List.Elements.{filter-append}
 use Rattle.std.proofs.lemmas.List.Folds.{list_any_at}
 use Rattle.std.proofs.lemmas.List.Quantifiers.{position-Some}
@@ -144,10 +144,7 @@ module _ (old new : Groups) (key : Vec Value Global) (values : List CellValue) (
   }
 
   pub new_place : (g : ℕ) → g ≡ length old.keys.keys → IsGroupOf new values g
-  new_place g here = subst (λ ks. (g < length ks) × (get_or ks g [] ≡ values)) (sym keys_then)
-      (subst (λ n. (n < length (keys_held old ++ values ∷ [])) × (get_or (keys_held old ++ values ∷ []) n [] ≡ values)) (length-map old.keys.keys (λ k. map value_view k.items) ∙ sym here)
-      (last (keys_held old)))
-    where
-      last : (ks : List (List CellValue)) → (length ks < length (ks ++ values ∷ [])) × (get_or (ks ++ values ∷ []) (length ks) [] ≡ values)
-      last [] = (omega arith, refl)
-      last (k ∷ ks) = let more = last ks in let less = more.0 in (omega arith, more.1)
+  new_place g here =
+      let many = length-map old.keys.keys (λ k. map value_view k.items) in
+      subst (λ ks. (g < length ks) × (get_or ks g [] ≡ values)) (sym keys_then)
+      (omega (arith, here, many, length_push (keys_held old) values), get_or_push (keys_held old) values [] g (many ∙ sym here))

@@ -4,6 +4,7 @@ use Rattle.std.specs.Prelude.{slice_set}
 use Rattle.std.specs.List.{AllByRecursion, AllZip, list_any}
 use Rattle.std.proofs.lemmas.Bool.{cases_Bool, false≢true}
 use Rattle.std.proofs.lemmas.List.Folds.{list_any-append}
+use Rattle.std.proofs.lemmas.Slice.Zip.{AllZip-long}
 use Rattle.std.proofs.Math.Bool.{or-false}
 
 pub replicated : {X : Type 0} (n i : ℕ) (x : X) → get_or (replicate n x) i x ≡ x
@@ -41,10 +42,7 @@ module _ {X : Type 0} (eq : X → X → Bool) (is : (a b : X) → eq a b ≡ tru
 
 module _ {A B : Type 0} (R : A → B → Type 0) where
   pub zip_long : (xs : List A) (ys : List B) → AllZip R xs ys → length xs ≡ length ys
-  zip_long [] [] z = refl
-  zip_long [] (y ∷ ys) z = absurd z
-  zip_long (x ∷ xs) [] z = absurd z
-  zip_long (x ∷ xs) (y ∷ ys) z = ap suc (zip_long xs ys z.1)
+  zip_long xs ys z = sym (AllZip-long R xs ys z)
 
   pub zip_at : (xs : List A) (ys : List B) (i : ℕ) (d : A) (e : B) → AllZip R xs ys → i < length ys → R (get_or xs i d) (get_or ys i e)
   zip_at [] [] i d e z h = absurd (omega arith)

@@ -1,10 +1,10 @@
 -- Aggregates of which no two are the same, where one more is asked for.
 use Rattle.std.proofs.Common.{◌≡◌, ℕ, ◌<◌, ◌+◌, List, [], ◌∷◌, ◌++◌, length, map, take, get_or, inl, inr, refl, sym, ap, subst, ◌∙◌, arith}
 use Rattle.std.specs.Prelude.{◌≢◌}
-use Rattle.std.specs.List.{AllByRecursion}
+use Rattle.std.specs.List.{All, AllByRecursion}
 use Rattle.std.proofs.lemmas.Bool.{cases_lt}
 use Rattle.std.proofs.lemmas.List.{get_or_append_left, get_or_default, get_or_push, length-append, map-append, take_more}
-use Rattle.std.proofs.lemmas.List.Elements.{All-from_recursion, All-push, recursion_from_All}
+use Rattle.std.proofs.lemmas.List.Elements.{All-push, recursion_from_All}
 use Rattle.odata_query.specs.declared.aggregate.Aggregate.{Aggregate}
 use Rattle.odata_query.specs.declared.aggregate.NamedAggregate.{NamedAggregate}
 use Rattle.odata_query.specs.Aggregate.{named_view}
@@ -19,11 +19,11 @@ module _ (once : List Aggregate) (asked : Aggregate) where
   stay (place ∷ shown) within = rw (get_or_append_left once (asked ∷ []) Count place within.0, stay shown within.1) refl
 
 -- what is true of all named ones is true of each
-pub true_of_each : (P : Aggregate → Type 0) (named once : List Aggregate) (shown : List ℕ) → AreOnce named once shown → AllByRecursion P named → AllByRecursion P once
+pub true_of_each : (P : Aggregate → Type 0) (named once : List Aggregate) (shown : List ℕ) → AreOnce named once shown → All P named → AllByRecursion P once
 true_of_each P named once shown are all =
     recursion_from_All P once (λ i d h.
     let there = are.no_others i h in
-    subst P (there.2 ∙ get_or_default once i Count d h) (All-from_recursion P named all there.0 Count there.1))
+    subst P (there.2 ∙ get_or_default once i Count d h) (all there.0 Count there.1))
 
 module _ (named once : List Aggregate) (shown : List ℕ) (asked : Aggregate) (are : AreOnce named once shown) where
   more_named : (i : ℕ) → i < length once → (j : ℕ) × (j < length (named ++ asked ∷ [])) × (get_or (named ++ asked ∷ []) j Count ≡ get_or once i Count)

@@ -4,7 +4,7 @@ use Rattle.std.specs.Prelude.{nat_eq, slice_set}
 use Rattle.std.specs.List.{All, AllByRecursion, IsDistinct}
 use Rattle.std.proofs.lemmas.Bool.{cases_Bool, cases_order, false≢true}
 use Rattle.std.proofs.lemmas.Bool.Decides.{nat_tests}
-use Rattle.std.proofs.lemmas.List.{append-nil, take_more}
+use Rattle.std.proofs.lemmas.List.{append-nil, length-take-le, take_more}
 use Rattle.std.proofs.lemmas.List.Elements.{All-from_recursion}
 use Rattle.std.proofs.lemmas.Map.Keys.{apart_from_distinct}
 use Rattle.cell_types.specs.Value.{CellValue}
@@ -69,15 +69,8 @@ pub part_more : (numbers groups : List ℕ) (i : ℕ) (parts : List (Vec ℕ Glo
 part_more numbers groups i parts part made long inside within at push are =
     subst (λ ns. ArePartsFrom 0 ns (take (i + 1) groups) (slice_set parts (get_or groups i 0) made)) (sym (take_more numbers i 0 inside))
     (subst (λ gs. ArePartsFrom 0 (take i numbers ++ get_or numbers i 0 ∷ []) gs (slice_set parts (get_or groups i 0) made)) (sym (take_more groups i 0 (omega (arith, inside, long))))
-    (parts_more 0 (get_or groups i 0) (take i numbers) (take i groups) (get_or numbers i 0) (get_or groups i 0) parts part made (both numbers groups i long) (omega arith) within are
+    (parts_more 0 (get_or groups i 0) (take i numbers) (take i groups) (get_or numbers i 0) (get_or groups i 0) parts part made (length-take-le i numbers (omega (arith, inside)) ∙ sym (length-take-le i groups (omega (arith, inside, long)))) (omega arith) within are
     (push ∙ ap (λ (p : Vec ℕ Global). p.items ++ get_or numbers i 0 ∷ []) at)))
-  where
-    both : (ns gs : List ℕ) (k : ℕ) → length ns ≡ length gs → length (take k ns) ≡ length (take k gs)
-    both ns gs zero e = refl
-    both [] [] (suc k) e = refl
-    both [] (g ∷ gs) (suc k) e = absurd (omega arith)
-    both (n ∷ ns) [] (suc k) e = absurd (omega arith)
-    both (n ∷ ns) (g ∷ gs) (suc k) e = ap suc (both ns gs k (omega arith))
 
 pub parts_none : (start : ℕ) (parts : List (Vec ℕ Global)) → AllByRecursion (λ (part : Vec ℕ Global). part.items ≡ []) parts → ArePartsFrom start [] [] parts
 parts_none start [] none = tt

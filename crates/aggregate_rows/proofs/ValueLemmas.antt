@@ -4,7 +4,7 @@ use Rattle.std.specs.Cmp.{both_ways, IsEquivalence, IsTotalOrder}
 use Rattle.std.specs.List.{AllByRecursion, IsDistinct, list_any}
 use Rattle.std.proofs.lemmas.Bool.{cases_Bool}
 use Rattle.std.proofs.lemmas.List.{map-append}
-use Rattle.std.proofs.lemmas.List.Elements.{filter-append}
+use Rattle.std.proofs.lemmas.List.Elements.{filter_passes, filter-append, recursion_from_All}
 use Rattle.std.proofs.lemmas.List.Folds.{list_any-append}
 use Rattle.std.proofs.lemmas.Map.Keys.{IsDistinct-push}
 use Rattle.std.proofs.lemmas.Map.Made.{length-from_keys}
@@ -18,8 +18,7 @@ use Rattle.aggregate_rows.proofs.ExtremeLemmas.{below_trans, not_below, pick, pi
 use Rattle.aggregate_rows.proofs.ListLemmas.{there_already}
 
 all_values : (vs : List CellValue) → AllByRecursion (λ v. is_value v ≡ true) (filter is_value vs)
-all_values [] = tt
-all_values (v ∷ vs) = elim (cases_Bool (is_value v)) [ inl e ↦ rw e (e, all_values vs) | inr e ↦ rw e (all_values vs) ]
+all_values vs = recursion_from_All (λ v. is_value v ≡ true) (filter is_value vs) (filter_passes is_value vs)
 
 -- ---- the best of values, where a test tells which of two wins: null is none
 
