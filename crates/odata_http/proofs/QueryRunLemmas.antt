@@ -24,16 +24,16 @@ use Rattle.query_exec.specs.declared.fault.ExecFault.TheVariants.{DivisionByZero
 use Rattle.query_exec.specs.declared.run.Run.{Run}
 use Rattle.query_exec.specs.declared.run.Step.{Step}
 use Rattle.query_exec.specs.declared.run.Step.TheVariants.{More, Done}
-use Rattle.query_exec.specs.Answer.{plan_answer}
-use Rattle.result_rows.specs.Rows.{BeginWith, RowsOf}
+use Rattle.query_exec.specs.Answer.{plan_answer, unordered_answer}
+use Rattle.result_rows.specs.Rows.{AreReordered, BeginWith, RowsOf}
 use Rattle.reply_text.specs.declared.row_sizes.RowSizes.{RowSizes}
 use Rattle.reply_text.specs.RowSizes.{AreCsvSizes, AreJsonSizes}
-use Rattle.query_exec.specs.Run.{AdvancesTo, RunGives, MayBeHanded, StandsFor, awaited, handed_block, next_block, run_length}
+use Rattle.query_exec.specs.Run.{AdvancesTo, HasAnswered, LendsFor, RunGives, MayBeHanded, StandsFor, awaited, handed_block, next_block, run_length}
 use Rattle.odata_request.specs.Request.{RowsRequestOf}
 use Rattle.odata_http.specs.declared.query_run.QueryRun.{QueryRun}
 use Rattle.odata_http.specs.Exchange.{IsQueryRun, query_length}
 use Rattle.odata_http.specs.Work.{MayRead, NeedsBlocksOf, StartsReading}
-use Rattle.odata_http.specs.Reply.{HaveSizesIn, ResponseOf, RespondsWithRows, rows_response}
+use Rattle.odata_http.specs.Reply.{HaveFirstSizes, HaveSizesIn, ResponseOf, RespondsWithRows, rows_response}
 use Rattle.odata_http.proofs.LengthLemmas.{max_below}
 
 -- ---- tables and blocks
@@ -79,6 +79,9 @@ lent_tells run lent table block e h = subst (λ (r : Run). TellsNext r table blo
 pub lent_gives : (run lent : Run) (rows : RowsOf) → lent ≡ run → RunGives run rows → RunGives lent rows
 lent_gives run lent rows e h = subst (λ (r : Run). RunGives r rows) (sym e) h
 
+pub lent_lends : (run lent : Run) (plan : PlanOf) (table : TableOf) → lent ≡ run → LendsFor run plan table → LendsFor lent plan table
+lent_lends run lent plan table e h = subst (λ (r : Run). LendsFor r plan table) (sym e) h
+
 pub needs_blocks : (catalog : CatalogOf) (seen : List TableOf) (query_run : QueryRun) (found : TableOf) → MayRead catalog query_run → seen ≡ catalog.tables
     → found ≡ get_or seen query_run.table found → NeedsBlocksOf query_run.run.value found
 needs_blocks catalog seen query_run found may same at =
@@ -96,22 +99,27 @@ may_be_handed catalog seen query_run found block may same at given =
 -- ---- sizes of first rows
 
 pub none_counted : (format : Format) (sizes : RowSizes) → ((rows : RowsOf) → AreJsonSizes sizes 0 rows) → ((rows : RowsOf) → AreCsvSizes sizes 0 rows)
-    → (rows : RowsOf) → HaveSizesIn format sizes rows
+    → (rows : RowsOf) → HaveFirstSizes format sizes rows
 none_counted Json sizes json csv rows = (0, json rows)
 none_counted Csv sizes json csv rows = (0, csv rows)
 
 -- more of the first rows, in either format
 pub counted_json : (format : Format) (old new : RowSizes) (rows : RowsOf) (names : List (List ℕ)) (first : List (List CellValue)) → format ≡ Json → BeginWith rows names first
     → ((all : RowsOf) (count : ℕ) → BeginWith all names first → AreJsonSizes old count all → AreJsonSizes new (max count (length first)) all)
-    → HaveSizesIn format old rows → HaveSizesIn format new rows
+    → HaveFirstSizes format old rows → HaveFirstSizes format new rows
 counted_json Json old new rows names first is begin counts has = (max has.0 (length first), counts rows has.0 begin has.1)
 counted_json Csv old new rows names first is begin counts has = absurd (cc)
 
 pub counted_csv : (format : Format) (old new : RowSizes) (rows : RowsOf) (names : List (List ℕ)) (first : List (List CellValue)) → format ≡ Csv → BeginWith rows names first
     → ((all : RowsOf) (under : List (List ℕ)) (count : ℕ) → BeginWith all under first → AreCsvSizes old count all → AreCsvSizes new (max count (length first)) all)
-    → HaveSizesIn format old rows → HaveSizesIn format new rows
+    → HaveFirstSizes format old rows → HaveFirstSizes format new rows
 counted_csv Json old new rows names first is begin counts has = absurd (cc)
 counted_csv Csv old new rows names first is begin counts has = (max has.0 (length first), counts rows names has.0 begin has.1)
+
+-- sizes of rows as they come are those of rows in order
+pub reordered_sizes : (format : Format) (sizes : RowSizes) (before rows : RowsOf) → AreReordered before rows → HaveFirstSizes format sizes before → HaveSizesIn format sizes rows
+reordered_sizes Json sizes before rows moved has = (has.0, before, moved, has.1)
+reordered_sizes Csv sizes before rows moved has = (has.0, before, moved, has.1)
 
 -- ---- a run that begins
 
@@ -126,7 +134,7 @@ pub starts : (catalog : CatalogOf) (seen : List TableOf) (asked : RowsRequestOf)
     (summaries : List (List RangeOf)) → slice_get catalog.tables number ≡ Some table → number ≡ asked.table → seen ≡ catalog.tables → found ≡ get_or seen number found
     → schema ≡ found.schema → HasTableRows found → AreSummariesOf found summaries → asked.query.key ≡ None → (first : PlanOf) → MeansQuery first asked.query → MeansTheSame table.schema first plan
     → query_run.table ≡ number → query_run.format ≡ asked.format → query_run.counting ≡ asked.query.counting → query_run.most ≡ max (length summaries) 1
-    → ((rows : RowsOf) → HaveSizesIn query_run.format query_run.sizes rows)
+    → ((rows : RowsOf) → HaveFirstSizes query_run.format query_run.sizes rows)
     → ((t : TableOf) → t.schema ≡ schema → HasTableRows t → AreSummariesOf t summaries → StandsFor query_run.run.value plan t 0)
     → PlansNeedBlocks → needed plan table.rows ≡ needed_blocks asked.query table.rows → StartsReading catalog asked query_run
 starts catalog seen asked number found table schema query_run plan summaries is number_is same at of fit those unkeyed first means alike table_of format counting most sizes stands law blocks =
@@ -167,7 +175,7 @@ pub advanced_more : (plan : PlanOf) (table : TableOf) (handed : ℕ) (run : Run)
 advanced_more plan table handed run step e h = subst (λ (s : Step). AdvancesTo plan table handed run (Ok s)) e h
 
 pub advanced_done : (plan : PlanOf) (table : TableOf) (handed : ℕ) (run : Run) (step : Step) → step ≡ Done → AdvancesTo plan table handed run (Ok step)
-    → (rows : RowsOf) × (handed + 1 ≡ run_length plan table) × (plan_answer plan table ≡ Some rows) × RunGives run rows
+    → (rows : RowsOf) × (handed + 1 ≡ run_length plan table) × (plan_answer plan table ≡ Some rows) × RunGives run rows × HasAnswered run plan table
 advanced_done plan table handed run step e h = subst (λ (s : Step). AdvancesTo plan table handed run (Ok s)) e h
 
 pub advanced_fault : (plan : PlanOf) (table : TableOf) (handed : ℕ) (run : Run) (fault : ExecFault) → fault ≡ DivisionByZero → AdvancesTo plan table handed run (Err fault)
@@ -180,7 +188,7 @@ advanced_fault plan table handed run fault e h = subst (λ (f : ExecFault). Adva
 pub reads_more : (catalog : CatalogOf) (asked : RowsRequestOf) (left : ℕ) (old new : QueryRun) → (is : IsQueryRun catalog asked left old)
     → new.table ≡ old.table → new.format ≡ old.format → new.counting ≡ old.counting → new.most ≡ old.most → is.handed + 1 < run_length is.plan is.table
     → StandsFor new.run.value is.plan is.table (is.handed + 1)
-    → ((rows : RowsOf) → plan_answer is.plan is.table ≡ Some rows → HaveSizesIn old.format old.sizes rows → HaveSizesIn old.format new.sizes rows)
+    → ((rows : RowsOf) → unordered_answer is.plan is.table ≡ Some rows → HaveFirstSizes old.format old.sizes rows → HaveFirstSizes old.format new.sizes rows)
     → (1 < left) × IsQueryRun catalog asked (left - 1) new
 reads_more catalog asked left old new is number format counting most goes_on stands counts =
     let all = is.left_are in
@@ -200,7 +208,7 @@ reads_more catalog asked left old new is number format counting most goes_on sta
         stands = stands;
         left_are = omega (arith, all, more);
         few = omega (arith, few, most, more);
-        counted = λ rows answers. subst (λ (f : Format). HaveSizesIn f new.sizes rows) (sym format) (counts rows answers (is.counted rows answers));
+        counted = λ rows answers. subst (λ (f : Format). HaveFirstSizes f new.sizes rows) (sym format) (counts rows answers (is.counted rows answers));
       },
     )
 

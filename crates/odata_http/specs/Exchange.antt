@@ -10,7 +10,7 @@ use Rattle.query_meaning.specs.Meaning.{query_meaning}
 use Rattle.query_plan.specs.Plan.{PlanOf, answer_of}
 use Rattle.query_exec.specs.declared.run.Step.{Step}
 use Rattle.query_exec.specs.declared.run.Step.TheVariants.{More, Done}
-use Rattle.query_exec.specs.Answer.{plan_answer}
+use Rattle.query_exec.specs.Answer.{plan_answer, unordered_answer}
 use Rattle.query_plan.specs.Needed.{needed_blocks}
 use Rattle.query_exec.specs.Run.{StandsFor, run_length}
 use Rattle.result_rows.specs.Rows.{RowsOf}
@@ -23,7 +23,7 @@ use Rattle.odata_http.specs.declared.query_run.QueryRun.{QueryRun}
 use Rattle.odata_http.specs.declared.work.Work.{Work}
 use Rattle.odata_http.specs.declared.work.Work.TheVariants.{Refuse, ListTables, Find, Read, Replied, Failed}
 use Rattle.odata_http.specs.declared.exchange.Exchange.{Exchange}
-use Rattle.odata_http.specs.Reply.{HaveSizesIn, IsReply}
+use Rattle.odata_http.specs.Reply.{HaveFirstSizes, IsReply}
 
 -- how many calls a query takes on its table: one for each block that it needs, and one where it needs none
 abbrev pub query_length : TypedOf → TableOf → ℕ
@@ -56,7 +56,7 @@ pub record HeadTakes (catalog : CatalogOf) (head : HeadOf) (calls : ℕ) : Type 
 abbrev pub MeansOn : TableOf → PlanOf → TypedOf → Type 0
 MeansOn table plan query = option_map (answer_of query.counting) (plan_answer plan table) ≡ query_meaning table.schema query table.rows
 
--- a run on its table of a plan that means a query without a key, `left` calls before its end, and the sizes of some first rows of its answer
+-- a run on its table of a plan that means a query without a key, `left` calls before its end, and the sizes of some first rows of its answer before an order at its end
 pub record IsQueryRun (catalog : CatalogOf) (asked : RowsRequestOf) (left : ℕ) (query_run : QueryRun) : Type 0 where
   pub unkeyed : asked.query.key ≡ None
   pub table : TableOf
@@ -70,7 +70,7 @@ pub record IsQueryRun (catalog : CatalogOf) (asked : RowsRequestOf) (left : ℕ)
   pub stands : StandsFor query_run.run.value plan table handed
   pub left_are : left + handed ≡ run_length plan table
   pub few : left ≤ query_run.most
-  pub counted : (rows : RowsOf) → plan_answer plan table ≡ Some rows → HaveSizesIn query_run.format query_run.sizes rows
+  pub counted : (rows : RowsOf) → unordered_answer plan table ≡ Some rows → HaveFirstSizes query_run.format query_run.sizes rows
 
 -- the key of a query that fits its table, to be found there
 pub record IsKeyLookup (catalog : CatalogOf) (asked : RowsRequestOf) (key_lookup : KeyLookup) : Type 0 where

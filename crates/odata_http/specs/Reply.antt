@@ -12,7 +12,7 @@ use Rattle.reply_text.specs.Body.{rows_text, service_text, error_text}
 use Rattle.reply_text.specs.Csv.{csv_text}
 use Rattle.reply_text.specs.declared.row_sizes.RowSizes.{RowSizes}
 use Rattle.reply_text.specs.Json.{json_row}
-use Rattle.reply_text.specs.RowSizes.{HaveCsvSizes, HaveJsonSizes}
+use Rattle.reply_text.specs.RowSizes.{AreCsvSizes, AreJsonSizes, HaveCsvSizes, HaveJsonSizes}
 use Rattle.odata_parse.specs.declared.format.Format.{Format}
 use Rattle.odata_parse.specs.declared.format.Format.TheVariants.{Json, Csv}
 use Rattle.odata_errors.specs.Code.{status_of}
@@ -88,6 +88,11 @@ rows_body answer Json = rows_text answer
 rows_body answer Csv = csv_text answer
 
 -- these are the sizes of some first ones of the rows in that format
+abbrev pub HaveFirstSizes : Format → RowSizes → ResultOf → Type 0
+HaveFirstSizes Json sizes answer = (count : ℕ) × AreJsonSizes sizes count answer
+HaveFirstSizes Csv sizes answer = (count : ℕ) × AreCsvSizes sizes count answer
+
+-- or of the rows in some order
 abbrev pub HaveSizesIn : Format → RowSizes → ResultOf → Type 0
 HaveSizesIn Json sizes answer = HaveJsonSizes sizes answer
 HaveSizesIn Csv sizes answer = HaveCsvSizes sizes answer

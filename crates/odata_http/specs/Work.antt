@@ -7,8 +7,8 @@ use Rattle.query_plan.specs.Plan.{PlanOf}
 use Rattle.query_exec.specs.declared.run.Run.{Run}
 use Rattle.query_exec.specs.declared.run.Step.{Step}
 use Rattle.query_exec.specs.declared.run.Step.TheVariants.{More, Done}
-use Rattle.query_exec.specs.Answer.{plan_answer}
-use Rattle.query_exec.specs.Run.{StandsFor}
+use Rattle.query_exec.specs.Answer.{unordered_answer}
+use Rattle.query_exec.specs.Run.{LendsFor, StandsFor}
 use Rattle.result_rows.specs.Rows.{RowsOf}
 use Rattle.odata_parse.specs.declared.format.Format.{Format}
 use Rattle.reply_text.specs.declared.row_sizes.RowSizes.{RowSizes}
@@ -23,7 +23,7 @@ use Rattle.odata_http.specs.declared.query_run.Reached.TheVariants.{On, Over}
 use Rattle.odata_http.specs.declared.work.Work.{Work}
 use Rattle.odata_http.specs.declared.work.Work.TheVariants.{Find, Read, Replied, Waits}
 use Rattle.odata_http.specs.Exchange.{IsKeyLookup, IsQueryRun, IsWork, RequestTakes, TakesRunCalls}
-use Rattle.odata_http.specs.Reply.{HaveSizesIn, ResponseOf, RespondsWith, RespondsWithRows, reply_of}
+use Rattle.odata_http.specs.Reply.{HaveFirstSizes, ResponseOf, RespondsWith, RespondsWithRows, reply_of}
 
 abbrev pub response_view : Response → ResponseOf
 response_view response = record { status = response.status; media = response.media; body = response.body.bytes }
@@ -36,14 +36,14 @@ IsAskedFor catalog request = (fault : Option HeadFault) × (target : List ℕ) �
 abbrev pub NeedsBlocksOf : Run → TableOf → Type 0
 NeedsBlocksOf run table = (plan : PlanOf) × (handed : ℕ) × StandsFor run plan table handed
 
--- on some table
-abbrev pub NeedsBlocks : Run → Type 0
-NeedsBlocks run = (table : TableOf) × NeedsBlocksOf run table
+-- the run lends rows of some plan on some table
+abbrev pub LendsSome : Run → Type 0
+LendsSome run = (plan : PlanOf) × (table : TableOf) × LendsFor run plan table
 
--- the sizes of some first rows of whatever the run is to answer, in that format, and then of more or as many
+-- the sizes of some first rows of whatever the run is to answer, before an order at its end, in that format, and then of more or as many
 abbrev pub CountsOn : Run → Format → RowSizes → RowSizes → Type 0
-CountsOn run format old new = (plan : PlanOf) (table : TableOf) (handed : ℕ) (rows : RowsOf) → StandsFor run plan table handed → plan_answer plan table ≡ Some rows
-    → HaveSizesIn format old rows → HaveSizesIn format new rows
+CountsOn run format old new = (plan : PlanOf) (table : TableOf) (rows : RowsOf) → LendsFor run plan table → unordered_answer plan table ≡ Some rows
+    → HaveFirstSizes format old rows → HaveFirstSizes format new rows
 
 -- some key is to be found in these tables
 abbrev pub MayFind : CatalogOf → KeyLookup → Type 0

@@ -4,12 +4,12 @@ ghost use Rattle.query_plan.specs.Plan.{PlanOf};
 ghost use Rattle.query_exec.specs.Run.{StandsFor, handed_block};
 ghost use Rattle.odata_request.specs.Request.{IsRowsInside, RowsRequestOf, rows_request_view};
 ghost use Rattle.odata_http.specs.Exchange.{IsQueryRun};
-ghost use Rattle.odata_http.specs.Work.{CountsOn, IsHttpStatus, MayRead, NeedsBlocks, NeedsBlocksOf, ReadsOn, StartsReading};
+ghost use Rattle.odata_http.specs.Work.{CountsOn, IsHttpStatus, LendsSome, MayRead, NeedsBlocksOf, ReadsOn, StartsReading};
 
 use crate::response::{Response, answer_response, error_response};
 use odata_parse::Format;
 use odata_request::RowsRequest;
-use query_exec::{ExecFault, Run, Step};
+use query_exec::{ExecFault, Run, Step, orders_move_rows};
 use query_plan::{naive, needed_blocks_are_read, plans_need_blocks, rewrite};
 use reply_text::{Code, RowSizes};
 use std::alloc::{AllocError, Global};
@@ -27,7 +27,7 @@ pub(crate) struct QueryRun {
     /// Returns an upper bound on the remaining calls.
     pub(crate) most: usize,
     pub(crate) run: Box<Run>,
-    /// Those of some first rows of the answer, in its format.
+    /// Those of some first rows of the answer, in the order of the table and in its format.
     pub(crate) sizes: RowSizes,
 }
 
@@ -53,9 +53,9 @@ fn next_block<'t>(run: &Run, table: &'t Table) -> Option<Block<'t>>
     }
 }
 
-/// Returns the sizes with those of the rows that a run knows to be the first of its answer.
+/// Returns the sizes with those of the rows that a run lends.
 fn counted(sizes: RowSizes, run: &Run, format: Format) -> RowSizes
-    requires { NeedsBlocks run.now }
+    requires { LendsSome run.now }
     ensures { CountsOn run.now format sizes result }
 {
     let mut sizes = sizes;
@@ -112,6 +112,7 @@ impl QueryRun {
             → IfOk result (ReadsOn catalog.now asked left) }
         ensures known { IfOk result IsHttpStatus }
     {
+        orders_move_rows();
         let table = &catalog.tables()[self.table];
         let mut run = self.run;
         let block = next_block(&run, table);
@@ -121,8 +122,9 @@ impl QueryRun {
                 Ok(Reached::On(QueryRun { run, sizes, ..self }))
             }
             Ok(Step::Done) => {
+                let sizes = counted(self.sizes, &run, self.format);
                 let rows = Box::into_inner(run).finish();
-                let answer = answer_response(alloc, rows, self.counting, self.format, self.sizes)?;
+                let answer = answer_response(alloc, rows, self.counting, self.format, sizes)?;
                 Ok(Reached::Over(answer))
             }
             Err(ExecFault::DivisionByZero) => {

@@ -77,7 +77,7 @@ const SHORT_ROWS: usize = 512;
 /// The most bytes of such a body.
 const SHORT_BYTES: usize = 65_536;
 
-/// Returns the body of rows in a format, of which some first ones were counted. A short one is written in one pass, and its length is taken.
+/// Returns the body of rows in a format, of which some were counted. A short one is written in one pass, and its length is taken.
 fn rows_body(
     alloc: Global,
     rows: Rows,
@@ -100,7 +100,7 @@ fn rows_body(
     }
 }
 
-/// Returns what the rows of a run answer, of which some first ones were counted: if their number alone is asked for, it is their count.
+/// Returns what the rows of a run answer, of which some were counted: if their number alone is asked for, it is their count.
 pub(crate) fn answer_response(
     alloc: Global,
     rows: Rows,

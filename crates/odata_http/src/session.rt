@@ -29,8 +29,7 @@ enum State {
     Failed,
 }
 
-/// The answers to one stream that comes in pieces. It is seen as the rest of the stream, the output that waits, and whether a reply closed, it
-/// ended, or it failed.
+/// The answers to one stream that comes in pieces. It is seen as the rest of the stream, the output that waits, and whether a reply closed, it ended, or it failed.
 #[derive(Drop)]
 pub struct Session {
     splitter: Splitter,

@@ -1,6 +1,6 @@
--- Where no steps are left, the rows that a run has kept are its answer at the end, and first rows of it before.
-use Rattle.std.proofs.Common.{◌≡◌, ℕ, false, Option, Some, None, List, [], ◌++◌, drop, length, map, refl, sym, ap, ◌∙◌, string_bytes}
-use Rattle.std.specs.Prelude.{IfSome}
+-- Where no steps are left, the rows that a run has kept are its answer at the end, or what is put in order for it, and first rows of that before.
+use Rattle.std.proofs.Common.{◌≡◌, ℕ, false, Option, Some, None, List, [], ◌++◌, append-nil, drop, length, map, refl, sym, ap, ◌∙◌, string_bytes}
+use Rattle.std.specs.Prelude.{IfSome, option_and_then}
 use Rattle.std.proofs.lemmas.List.{length-map}
 use Rattle.cell_types.specs.Value.{CellValue}
 use Rattle.table_store.specs.Table.{TableOf}
@@ -11,14 +11,16 @@ use Rattle.result_rows.specs.Rows.{BeginWith, RowsOf}
 use Rattle.query_exec.specs.declared.front.FirstRows.{FirstRows}
 use Rattle.query_exec.specs.declared.kept.Kept.{Kept}
 use Rattle.query_exec.specs.declared.run.Run.{Run}
+use Rattle.query_exec.specs.declared.run.Stage.TheVariants.{Ended, Reading}
 use Rattle.query_exec.specs.declared.sink.Sink.{Sink}
 use Rattle.query_exec.specs.declared.sink.Sink.TheVariants.{Aggregate, Collect, Slice, Sorted, TopN}
 use Rattle.query_exec.specs.Steps.{without_count}
-use Rattle.query_exec.specs.Kept.{kept_names, AreKeptRows}
-use Rattle.query_exec.specs.Run.{handed_rows, passed_answer, passed_rows, steps_of, AreFirstRows, StandsFor}
-use Rattle.query_exec.specs.Sink.{sink_kept, sink_nodes, HasPushed, LendsKept}
+use Rattle.query_exec.specs.Kept.{kept_names, AreKeptRows, IsWide}
+use Rattle.query_exec.specs.Run.{handed_rows, passed_rows, ended, reads, AreFirstRows, LendsFor, StandsFor}
+use Rattle.query_exec.specs.Sink.{sink_kept, unordered_nodes, unordered_rows, HasPushed, LendsKept}
 use Rattle.query_exec.proofs.KeptLemmas.{as_many}
-use Rattle.query_exec.proofs.ReadLemmas.{answer_is, handed_parts, no_steps, passed_parts, read_rows}
+use Rattle.query_exec.proofs.OrderLemmas.{unordered_is}
+use Rattle.query_exec.proofs.ReadLemmas.{handed_parts, passed_parts, read_rows}
 use Rattle.query_exec.proofs.RunLemmas.{some_passed}
 use Rattle.query_exec.proofs.SliceLemmas.{piece_begins}
 
@@ -33,20 +35,25 @@ lent_width : (sink : Sink) (front : FirstRows) → LendsKept sink (Some front) �
 lent_width (Collect kept) front lends wide = kept_width kept front lends wide
 lent_width (Slice sink) front lends wide = kept_width sink.kept front lends wide
 lent_width (TopN sink) front lends wide = absurd lends
-lent_width (Sorted sink) front lends wide = absurd lends
+lent_width (Sorted sink) front lends wide = kept_width sink.kept front lends wide
 lent_width (Aggregate sink) front lends wide = absurd lends
 
--- what its step makes of more rows begins with that
-lent_first : (sink : Sink) (pushed more : List (List CellValue)) (front : FirstRows) (rows : RowsOf) → HasPushed sink pushed → LendsKept sink (Some front)
-    → nodes_result (sink_nodes sink) (without_count (kept_names (sink_kept sink)) (pushed ++ more)) ≡ Some rows
-    → BeginWith rows (map string_bytes front.names.now) front.columns.now.rows
-lent_first (Collect kept) pushed more front rows has lends made =
+-- of rows that stay as they are
+all_first : (kept : Kept) (pushed more : List (List CellValue)) (front : FirstRows) (rows : RowsOf) → kept.columns.rows ≡ pushed → AreKeptRows kept front
+    → Some (without_count (kept_names kept) (pushed ++ more)) ≡ Some rows → BeginWith rows (map string_bytes front.names.now) front.columns.now.rows
+all_first kept pushed more front rows has lends made =
     let same : without_count (kept_names kept) (pushed ++ more) ≡ rows = cc in
     record {
       names_are = ap (λ (r : RowsOf). r.names) (sym same) ∙ sym lends.names_are;
       rest = more;
       rows_are = ap (λ (r : RowsOf). r.rows) (sym same) ∙ ap (λ rs. rs ++ more) (sym has ∙ ap (λ (c : _). c.rows) (sym lends.columns_are));
     }
+
+-- what its step makes of more rows, before it puts them in order, begins with that
+lent_first : (sink : Sink) (pushed more : List (List CellValue)) (front : FirstRows) (rows : RowsOf) → HasPushed sink pushed → LendsKept sink (Some front)
+    → nodes_result (unordered_nodes sink) (without_count (kept_names (sink_kept sink)) (pushed ++ more)) ≡ Some rows
+    → BeginWith rows (map string_bytes front.names.now) front.columns.now.rows
+lent_first (Collect kept) pushed more front rows has lends made = all_first kept pushed more front rows has lends made
 lent_first (Slice sink) pushed more front rows has lends made =
     let piece = piece_begins sink.slice.skip sink.slice.top pushed more in
     let names : kept_names sink.kept ≡ rows.names = ap names_of made in
@@ -65,22 +72,23 @@ lent_first (Slice sink) pushed more front rows has lends made =
     rows_in None = []
     rows_in (Some r) = r.rows
 lent_first (TopN sink) pushed more front rows has lends made = absurd lends
-lent_first (Sorted sink) pushed more front rows has lends made = absurd lends
+lent_first (Sorted sink) pushed more front rows has lends made = all_first sink.kept pushed more front rows has.rows_are lends made
 lent_first (Aggregate sink) pushed more front rows has lends made = absurd lends
 
 -- ---- what a run lends
 
-some_made : (run : Run) (passed : Option (List (List CellValue))) (rows : RowsOf) → passed_answer run passed ≡ Some rows
-    → (all : List (List CellValue)) × (passed ≡ Some all) × (nodes_result (steps_of run) (without_count (kept_names (sink_kept run.sink)) all) ≡ Some rows)
-some_made run None rows is = absurd (cc)
-some_made run (Some all) rows is = (all, refl, is)
+some_unordered : (run : Run) (passed : Option (List (List CellValue))) (rows : RowsOf)
+    → option_and_then (λ rs. nodes_result (unordered_nodes run.sink) (without_count (kept_names (sink_kept run.sink)) rs)) passed ≡ Some rows
+    → (all : List (List CellValue)) × (passed ≡ Some all) × (nodes_result (unordered_nodes run.sink) (without_count (kept_names (sink_kept run.sink)) all) ≡ Some rows)
+some_unordered run None rows is = absurd (cc)
+some_unordered run (Some all) rows is = (all, refl, is)
 
 joined_more : (front all : List (List CellValue)) (back : Option (List (List CellValue))) → rows_joined (Some front) back ≡ Some all
     → (more : List (List CellValue)) × (front ++ more ≡ all)
 joined_more front all None is = absurd (cc)
 joined_more front all (Some more) is = (more, cc)
 
-pub front_is_first : ConditionsInTurn → (run : Run) (front : Option FirstRows) → run.faulted ≡ false → map node_view run.steps.items ≡ [] → LendsKept run.sink front
+front_is_first : ConditionsInTurn → (run : Run) (front : Option FirstRows) → run.faulted ≡ false → map node_view run.steps.items ≡ [] → LendsKept run.sink front
     → (plan : PlanOf) (table : TableOf) (handed : ℕ) → StandsFor run plan table handed → IfSome front (AreFirstRows plan table)
 front_is_first law run None works none lends plan table handed stands = tt
 front_is_first law run (Some front) works none lends plan table handed stands =
@@ -90,13 +98,36 @@ front_is_first law run (Some front) works none lends plan table handed stands =
       first = λ rows is.
           let before = handed_rows plan table handed in
           let behind = rows_of_blocks table.rows (drop handed (needed plan table.rows)) in
-          let names = kept_names (sink_kept run.sink) in
           let some = some_passed run (passed_rows run before) has.passed works in
-          let made = some_made run (passed_rows run (read_rows plan table)) rows (sym (answer_is run plan table handed has) ∙ is) in
+          let made = some_unordered run (passed_rows run (read_rows plan table)) rows (sym (unordered_is run plan table handed has none) ∙ is) in
           let more = joined_more some.0 made.0 (passed_rows run behind)
           (ap (λ passed. rows_joined passed (passed_rows run behind)) (sym some.1) ∙ sym (passed_parts law run before behind)
           ∙ ap (passed_rows run) (sym (handed_parts plan table handed)) ∙ made.1) in
           lent_first run.sink some.0 more.0 front rows some.2 lends
-          (ap (λ ns. nodes_result ns (without_count names (some.0 ++ more.0))) (sym (no_steps run none))
-          ∙ ap (λ rs. nodes_result (steps_of run) (without_count names rs)) more.1 ∙ made.2);
+          (ap (λ rs. nodes_result (unordered_nodes run.sink) (without_count (kept_names (sink_kept run.sink)) rs)) more.1 ∙ made.2);
     }
+
+-- while blocks are read
+pub reading_front : ConditionsInTurn → (run : Run) (front : Option FirstRows) → run.faulted ≡ false → map node_view run.steps.items ≡ [] → LendsKept run.sink front
+    → run.stage ≡ Reading → (plan : PlanOf) (table : TableOf) → LendsFor run plan table → IfSome front (AreFirstRows plan table)
+reading_front law run front works none lends is plan table (reads handed stands) = front_is_first law run front works none lends plan table handed stands
+reading_front law run front works none lends is plan table (ended has) = let wrong = sym is ∙ has.gives in absurd (cc)
+
+-- once the run is done
+pub ended_front : (run : Run) (rows : RowsOf) (front : FirstRows) → map node_view run.steps.items ≡ [] → run.stage ≡ Ended rows
+    → map string_bytes front.names.now ≡ (unordered_rows rows run.unordered).names → front.columns.now.rows ≡ (unordered_rows rows run.unordered).rows
+    → (IfSome run.unordered IsWide → length front.columns.now.kinds ≡ length front.names.now) → (plan : PlanOf) (table : TableOf) → LendsFor run plan table
+    → AreFirstRows plan table front
+ended_front run rows front none is names rows_are width plan table (reads handed stands) = let wrong = sym is ∙ stands.read.reads in absurd (cc)
+ended_front run rows front none is names rows_are width plan table (ended has) = record {
+  width = width has.unordered.wide;
+  first = λ all answer.
+      let stage : Ended rows ≡ Ended has.rows = sym is ∙ has.gives in
+      let given : has.rows ≡ rows = cc in
+      let lent : unordered_rows rows run.unordered ≡ all = let e = sym (ap (λ g. Some (unordered_rows g run.unordered)) given) ∙ sym (has.unordered.unordered_is none) ∙ answer in cc in
+      record {
+        names_are = ap (λ (r : RowsOf). r.names) (sym lent) ∙ sym names;
+        rest = [];
+        rows_are = ap (λ (r : RowsOf). r.rows) (sym lent) ∙ sym rows_are ∙ sym (append-nil front.columns.now.rows);
+      };
+}

@@ -13,6 +13,7 @@ pub mod NeededLemmas
 pub mod PartsLemmas
 pub mod AdmittedLemmas
 pub mod ReadLemmas
+pub mod OrderLemmas
 pub mod RunLemmas
 pub mod FrontLemmas
 pub mod EveryLemmas

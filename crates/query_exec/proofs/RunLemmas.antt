@@ -34,6 +34,7 @@ use Rattle.query_exec.proofs.CountLemmas.{few_pass, passed_count}
 use Rattle.query_exec.proofs.DayLemmas.{table_days}
 use Rattle.query_exec.proofs.FitLemmas.{block_fits}
 use Rattle.query_exec.proofs.NeededLemmas.{is_block, is_no_block, none_behind}
+use Rattle.query_exec.proofs.OrderLemmas.{ended_unordered}
 use Rattle.query_exec.proofs.ReadLemmas.{answer_is, block_read, handed_are_rows, is_ready, one_block_more, passed_fit, wanted_is_next, whole_read}
 
 -- ---- calls
@@ -73,7 +74,9 @@ answers run new plan table handed blocks (Ok None) has more last goes =
     (within, record { read = subst (λ (r : Run). HasTakenBlocks r plan table (handed + 1)) (sym goes.1) (subst (HasTakenBlocks run plan table) one has); goes_on = within })
 answers run new plan table handed blocks (Ok (Some rows)) has more last goes =
     let beyond = sym (wanted_is_next run plan table blocks has) ∙ goes.0 in
-    (last beyond, answer_is run plan table blocks has ∙ goes.1 _ (whole_read run plan table blocks has beyond))
+    let passed = whole_read run plan table blocks has beyond in
+    let answer = goes.1 _ passed in
+    (last beyond, answer_is run plan table blocks has ∙ answer, ended_unordered run new plan table blocks rows has passed answer goes.2)
 answers run new plan table handed blocks (Err DivisionByZero) has more last goes =
     let beyond = sym (wanted_is_next run plan table blocks has) ∙ goes.0 in
     (last beyond, answer_is run plan table blocks has ∙ goes.1 _ (whole_read run plan table blocks has beyond))

@@ -13,9 +13,9 @@ use Rattle.block_filter.specs.declared.block.Passed.{Passed}
 use Rattle.query_exec.specs.declared.kept.Kept.{Kept}
 use Rattle.query_exec.specs.declared.sink.Sink.TheVariants as sink
 use Rattle.query_exec.specs.declared.sorted.SortedSink.{SortedSink}
-use Rattle.query_exec.specs.Kept.{kept_names, kept_places, HasKept}
+use Rattle.query_exec.specs.Kept.{kept_names, kept_places, HasKept, IsWide}
 use Rattle.query_exec.specs.Picked.{selected_rows}
-use Rattle.query_exec.specs.Sink.{sorted_items, MayPush, PushesOn, SinkGives}
+use Rattle.query_exec.specs.Sink.{sorted_items, MayPush, PushesOn, SinkEnds, SinkGives}
 use Rattle.query_exec.specs.Steps.{without_count}
 
 -- rows of a block are kept after others that are in runs
@@ -44,11 +44,20 @@ sorted_pushed old mid runs rows found kept are = record {
 }
 
 -- the rows that are kept, in order, are all in order
-pub sorted_finishes : (s : SortedSink) (numbers : List ℕ) (given : ResultOf) → AreInItemOrder (sorted_items s) s.kept.columns.rows numbers
+sorted_finishes : (s : SortedSink) (numbers : List ℕ) (given : ResultOf) → AreInItemOrder (sorted_items s) s.kept.columns.rows numbers
     → given ≡ without_count (kept_names s.kept) (numbered numbers s.kept.columns.rows) → SinkGives (sink.Sorted s) given
 sorted_finishes s numbers given are is = record {
   gives = λ rows has.
       ap (λ rs. option_and_then (nodes_result []) (option_map (λ rs. without_count (kept_names s.kept) rs) (ordered (sorted_items s) rs))) (sym has.rows_are)
       ∙ ap (λ sorted. option_and_then (nodes_result []) (option_map (λ rs. without_count (kept_names s.kept) rs) sorted)) are.rows_are
       ∙ ap Some (sym is);
+}
+
+-- and as they came, they are all
+pub sorted_ends : (s : SortedSink) (numbers : List ℕ) (given : ResultOf) → IsWide s.kept → AreInItemOrder (sorted_items s) s.kept.columns.rows numbers
+    → given ≡ without_count (kept_names s.kept) (numbered numbers s.kept.columns.rows) → SinkEnds (sink.Sorted s) given (Some s.kept)
+sorted_ends s numbers given wide are is = record {
+  given_is = sorted_finishes s numbers given are is;
+  wide = wide;
+  unordered_is = λ rows has. ap (λ rs. Some (without_count (kept_names s.kept) rs)) (sym has.rows_are);
 }

@@ -1,5 +1,5 @@
 -- What a run stands for, and what its calls make of that.
-use Rattle.std.specs.Prelude.{◌≡◌, ◌<◌, ◌+◌, ◌++◌, ◌^◌, ⊤, ℕ, true, IfSome, Option, Some, None, Result, Ok, Err, List, count_by, drop, is_none, is_some, length, map, max, option_and_then, option_map, slice_get, string_bytes, take}
+use Rattle.std.specs.Prelude.{◌≡◌, ◌<◌, ◌+◌, ◌++◌, ◌^◌, ⊤, ℕ, true, IfSome, Option, Some, None, Result, Ok, Err, List, [], count_by, drop, is_none, is_some, length, map, max, option_and_then, option_map, slice_get, string_bytes, take}
 use Rattle.std.specs.List.{All}
 use Rattle.cell_types.specs.Value.{CellValue}
 use Rattle.typed_trees.specs.TypedTree.{TruthExprOf, boxed_truth}
@@ -20,12 +20,12 @@ use Rattle.query_exec.specs.declared.run.Stage.TheVariants.{Reading, Ended, Refu
 use Rattle.query_exec.specs.declared.run.Step.{Step}
 use Rattle.query_exec.specs.declared.run.Step.TheVariants.{More, Done}
 use Rattle.result_rows.specs.Rows.{BeginWith, RowsOf}
-use Rattle.query_exec.specs.Answer.{plan_answer}
+use Rattle.query_exec.specs.Answer.{plan_answer, unordered_answer}
 use Rattle.query_exec.specs.Conditions.{condition_nodes}
 use Rattle.query_exec.specs.Steps.{without_count}
-use Rattle.query_exec.specs.Kept.{kept_names, kept_places, AreKeptOf, HasSameColumns}
+use Rattle.query_exec.specs.Kept.{kept_names, kept_places, AreKeptOf, HasSameColumns, IsWide}
 use Rattle.query_exec.specs.Picked.{selected_rows}
-use Rattle.query_exec.specs.Sink.{room_behind, sink_kept, sink_nodes, HasPushed}
+use Rattle.query_exec.specs.Sink.{room_behind, sink_kept, sink_nodes, unordered_nodes, unordered_rows, HasPushed}
 
 -- the number of the block that is needed after those that were handed in, where there is one
 abbrev pub next_block : PlanOf → TableOf → ℕ → Option ℕ
@@ -101,26 +101,42 @@ pub data MayBeHanded (run : Run) (block : Option TableOf) : Type 0 where
   failed : RunIsRefused run → MayBeHanded run block
   awaited : IsAwaited run block → MayBeHanded run block
 
+-- a run that does no more steps than its sink has the answer of a plan before an order at its end, beside the answer
+pub record IsUnordered (run : Run) (plan : PlanOf) (table : TableOf) (rows : RowsOf) : Type 0 where
+  pub wide : IfSome run.unordered IsWide
+  pub unordered_is : map node_view run.steps.items ≡ [] → unordered_answer plan table ≡ Some (unordered_rows rows run.unordered)
+
+-- the run is done, and has both
+pub record HasAnswered (run : Run) (plan : PlanOf) (table : TableOf) : Type 0 where
+  pub rows : RowsOf
+  pub gives : RunGives run rows
+  pub unordered : IsUnordered run plan table rows
+
+-- a run that lends rows of a plan on a table: it stands for the plan, or is done
+pub data LendsFor (run : Run) (plan : PlanOf) (table : TableOf) : Type 0 where
+  reads : (handed : ℕ) → StandsFor run plan table handed → LendsFor run plan table
+  ended : HasAnswered run plan table → LendsFor run plan table
+
 -- What a run answers that was handed `handed` blocks before: Done with the answer, or the division by zero, at the call of its length, and
 -- More before it.
 abbrev pub AdvancesTo : PlanOf → TableOf → ℕ → Run → Result Step ExecFault → Type 0
 AdvancesTo plan table handed run (Ok More) = (handed + 1 < run_length plan table) × StandsFor run plan table (handed + 1)
-AdvancesTo plan table handed run (Ok Done) = (rows : RowsOf) × (handed + 1 ≡ run_length plan table) × (plan_answer plan table ≡ Some rows) × RunGives run rows
+AdvancesTo plan table handed run (Ok Done) = (rows : RowsOf) × (handed + 1 ≡ run_length plan table) × (plan_answer plan table ≡ Some rows) × RunGives run rows × HasAnswered run plan table
 AdvancesTo plan table handed run (Err DivisionByZero) = (handed + 1 ≡ run_length plan table) × (plan_answer plan table ≡ None)
 AdvancesTo plan table handed run (Err NoMemory) = ⊤
 AdvancesTo plan table handed run (Err Failed) = ⊥
 
--- names, with a column for each, and rows that are those of whatever the plan answers on the table and the first of these
+-- names, with a column for each, and rows that are those of whatever the plan answers on the table before an order at its end, and the first of these
 pub record AreFirstRows (plan : PlanOf) (table : TableOf) (front : FirstRows) : Type 0 where
   pub width : length front.columns.now.kinds ≡ length front.names.now
-  pub first : (rows : RowsOf) → plan_answer plan table ≡ Some rows → BeginWith rows (map string_bytes front.names.now) front.columns.now.rows
+  pub first : (rows : RowsOf) → unordered_answer plan table ≡ Some rows → BeginWith rows (map string_bytes front.names.now) front.columns.now.rows
 
 -- ---- inside
 
 -- as `AdvancesTo`, of a run whose stage is not set yet: there are rows at the call of its length, and none before it
 abbrev pub StepsTo : PlanOf → TableOf → ℕ → Run → Result (Option RowsOf) ExecFault → Type 0
 StepsTo plan table handed run (Ok None) = (handed + 1 < run_length plan table) × StandsFor run plan table (handed + 1)
-StepsTo plan table handed run (Ok (Some rows)) = (handed + 1 ≡ run_length plan table) × (plan_answer plan table ≡ Some rows)
+StepsTo plan table handed run (Ok (Some rows)) = (handed + 1 ≡ run_length plan table) × (plan_answer plan table ≡ Some rows) × IsUnordered run plan table rows
 StepsTo plan table handed run (Err DivisionByZero) = (handed + 1 ≡ run_length plan table) × (plan_answer plan table ≡ None)
 StepsTo plan table handed run (Err NoMemory) = ⊤
 StepsTo plan table handed run (Err Failed) = ⊥
@@ -168,10 +184,17 @@ wanted room next = next
 abbrev pub wanted_block : Run → Option ℕ
 wanted_block run = wanted run.room (slice_get run.left.items 0)
 
+-- a run has the rows that passed as they were before they were put in order, beside the answer
+pub record KeepsUnordered (old new : Run) (rows : RowsOf) : Type 0 where
+  pub steps : new.steps ≡ old.steps
+  pub wide : IfSome new.unordered IsWide
+  pub unordered_is : map node_view old.steps.items ≡ [] → (passed : List (List CellValue)) → HasPassed old (Some passed)
+      → nodes_result (unordered_nodes old.sink) (without_count (kept_names (sink_kept old.sink)) passed) ≡ Some (unordered_rows rows new.unordered)
+
 -- what a run makes of the blocks that were handed in: nothing yet where others are to come
 abbrev pub RunGoesOn : Run → Run → Result (Option RowsOf) ExecFault → Type 0
 RunGoesOn old new (Ok None) = (is_some (wanted_block old) ≡ true) × (new ≡ old)
-RunGoesOn old new (Ok (Some rows)) = (wanted_block old ≡ None) × IsRunAnswer old (Some rows)
+RunGoesOn old new (Ok (Some rows)) = (wanted_block old ≡ None) × IsRunAnswer old (Some rows) × KeepsUnordered old new rows
 RunGoesOn old new (Err DivisionByZero) = (wanted_block old ≡ None) × IsRunAnswer old None
 RunGoesOn old new (Err NoMemory) = ⊤
 RunGoesOn old new (Err Failed) = ⊥

@@ -1,6 +1,6 @@
 -- What takes in the rows that pass the conditions of a plan. The law of a sink: where rows are pushed, piece by piece, what it finishes with is what its step
 -- makes of all of them.
-use Rattle.std.specs.Prelude.{◌≡◌, ◌<◌, ◌-◌, ◌^◌, ◌++◌, ⊤, ℕ, true, false, List, [], ◌∷◌, Option, Some, None, drop, length, map}
+use Rattle.std.specs.Prelude.{◌≡◌, ◌<◌, ◌-◌, ◌^◌, ◌++◌, ⊤, ℕ, IfSome, true, false, List, [], ◌∷◌, Option, Some, None, drop, length, map}
 use Rattle.std.specs.List.{All}
 use Rattle.cell_types.specs.Value.{CellValue}
 use Rattle.odata_query.specs.Aggregate.{aggregates_view}
@@ -29,7 +29,7 @@ use Rattle.query_exec.specs.declared.top_n.TopNSink.{TopNSink}
 use Rattle.query_exec.specs.Cutoffs.{HasCutoff}
 use Rattle.query_exec.specs.Steps.{aggregate_node, without_count}
 use Rattle.query_exec.specs.Items.{none_can_fault, ItemsFit}
-use Rattle.query_exec.specs.Kept.{kept_names, kept_places, AreKeptOf, AreKeptRows, HasSameColumns}
+use Rattle.query_exec.specs.Kept.{kept_names, kept_places, AreKeptOf, AreKeptRows, HasSameColumns, IsWide}
 use Rattle.query_exec.specs.Picked.{selected_rows}
 
 abbrev pub sink_items : TopNSink → List Item
@@ -52,6 +52,11 @@ sink_nodes (Slice sink) = slicing (slice_view sink.slice) ∷ []
 sink_nodes (TopN sink) = choosing (sink_items sink) sink.most ∷ []
 sink_nodes (Sorted sink) = sorting (sorted_items sink) ∷ []
 sink_nodes (Aggregate sink) = aggregate_node (optional_numbers sink.places) (aggregates_view sink.aggregates) ∷ []
+
+-- that step, unless it is an order
+abbrev pub unordered_nodes : Sink → List NodeOf
+unordered_nodes (Sorted sink) = []
+unordered_nodes sink = sink_nodes sink
 
 -- ---- the rows that were pushed
 
@@ -122,12 +127,12 @@ pub record PushesOn (old new : Sink) (rows : List (List CellValue)) (found : Pas
 
 -- ---- before the finish
 
--- a sink whose step makes of rows what it has kept of them lends that, and another lends nothing
+-- a sink whose step makes of rows what it has kept of them, or puts that in order, lends that, and another lends nothing
 abbrev pub LendsKept : Sink → Option FirstRows → Type 0
 LendsKept (Collect kept) (Some front) = AreKeptRows kept front
 LendsKept (Slice sink) (Some front) = AreKeptRows sink.kept front
 LendsKept (TopN sink) None = ⊤
-LendsKept (Sorted sink) None = ⊤
+LendsKept (Sorted sink) (Some front) = AreKeptRows sink.kept front
 LendsKept (Aggregate sink) None = ⊤
 LendsKept _ _ = ⊥
 
@@ -143,3 +148,15 @@ pub record MayFinish (sink : Sink) : Type 0 where
 -- that is what its step makes of the rows that were pushed
 pub record SinkGives (sink : Sink) (given : RowsOf) : Type 0 where
   pub gives : (rows : List (List CellValue)) → HasPushed sink rows → nodes_result (sink_nodes sink) (without_count (kept_names (sink_kept sink)) rows) ≡ Some given
+
+-- the rows that are kept as they were before they were put in order, if they were, else those that are given
+abbrev pub unordered_rows : RowsOf → Option Kept → RowsOf
+unordered_rows given None = given
+unordered_rows given (Some kept) = without_count (kept_names kept) kept.columns.rows
+
+-- that is what its step makes of them, and what it makes of them before it puts them in order
+pub record SinkEnds (sink : Sink) (given : RowsOf) (unordered : Option Kept) : Type 0 where
+  pub given_is : SinkGives sink given
+  pub wide : IfSome unordered IsWide
+  pub unordered_is : (rows : List (List CellValue)) → HasPushed sink rows
+      → nodes_result (unordered_nodes sink) (without_count (kept_names (sink_kept sink)) rows) ≡ Some (unordered_rows given unordered)

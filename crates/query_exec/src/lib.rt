@@ -18,6 +18,6 @@ mod steps;
 mod top_n;
 
 pub use fault::ExecFault;
-pub use front::FirstRows;
+pub use front::{FirstRows, orders_move_rows};
 pub use result_rows::Rows;
 pub use run::{Run, Step};

@@ -9,12 +9,12 @@ ghost use Rattle.query_plan.specs.Plan.{plan_view, PlanOf};
 ghost use Rattle.result_rows.specs.Rows.{RowsOf};
 ghost use Rattle.query_exec.specs.declared.fault.ExecFault.TheVariants.{NoMemory, Failed};
 ghost use Rattle.query_exec.specs.declared.run.Step.TheVariants.{Done};
-ghost use Rattle.query_exec.specs.Run.{handed_block, next_block, AdvancesTo, AreFirstRows, HasTakenIn, RunGives, RunGoesOn, RunIsRefused, IsAwaited, RunIsDone, IsReady, MayBeHanded, MayTakeIn, StandsFor, StepsTo, wanted_block};
+ghost use Rattle.query_exec.specs.Run.{handed_block, next_block, AdvancesTo, AreFirstRows, HasTakenIn, LendsFor, RunGives, RunGoesOn, RunIsRefused, IsAwaited, RunIsDone, IsReady, MayBeHanded, MayTakeIn, StandsFor, StepsTo, wanted_block};
 
 use crate::admitted::admitted;
 use crate::every::found_rows;
 use crate::fault::ExecFault;
-use crate::front::FirstRows;
+use crate::front::{FirstRows, unordered_front};
 use crate::kept::Kept;
 use crate::parts::{Parts, split};
 use crate::sink::Sink;
@@ -62,6 +62,8 @@ pub struct Run {
     sink: Sink,
     /// The steps on what the sink makes of them.
     steps: Vec<Node>,
+    /// The rows of the answer as they were before they were put in order, if the sink did that.
+    unordered: Option<Kept>,
     stage: Stage,
 }
 
@@ -90,7 +92,8 @@ impl Run {
             return Err(ExecFault::DivisionByZero);
         }
         let sink = mem::replace(&mut self.sink, Sink::Collect(Kept::none(alloc)));
-        let sunk = sink.finish(alloc)?;
+        let (sunk, unordered) = sink.finish(alloc)?;
+        self.unordered = unordered;
         let made = apply_all(alloc, &self.steps, sunk)?;
         Ok(Some(made))
     }
@@ -167,6 +170,7 @@ impl Run {
             faulted: false,
             sink,
             steps,
+            unordered: None,
             stage: Stage::Reading,
         })
     }
@@ -184,10 +188,11 @@ impl Run {
         }
     }
 
-    /// Returns the names of the answer, and those of its first rows that passed so far, if it has the rows as they pass: in no order and in no groups.
+    /// Returns the names of the answer and the rows that passed so far, if the answer has these rows, in any order. After Done it returns all rows of the
+    /// answer. An order at the end of the steps is left out.
     pub fn front(&self) -> Option<FirstRows<'_>>
-        ensures { (plan : PlanOf) (table : TableOf) (handed : ℕ)
-            → StandsFor self.now plan table handed → IfSome result (AreFirstRows plan table) }
+        ensures { (plan : PlanOf) (table : TableOf)
+            → LendsFor self.now plan table → IfSome result (AreFirstRows plan table) }
     {
         conditions_in_turn();
         if self.faulted || !self.steps.is_empty() {
@@ -195,7 +200,8 @@ impl Run {
         }
         match &self.stage {
             Stage::Reading => self.sink.front(),
-            Stage::Refused | Stage::Ended(_) => None,
+            Stage::Ended(rows) => Some(unordered_front(rows, self.unordered.as_ref())),
+            Stage::Refused => None,
         }
     }
 

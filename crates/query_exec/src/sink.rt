@@ -1,7 +1,7 @@
 //! What takes in the rows that pass the conditions of a plan: it does the step after them.
 ghost use Rattle.std.specs.Prelude.{◌≡◌, ◌++◌, ◌∷◌, [], IfOk, OnOk, map, option_to_list};
 ghost use Rattle.query_plan.specs.Plan.{node_view};
-ghost use Rattle.query_exec.specs.Sink.{sink_kept, sink_nodes, spare_of, LendsKept, SinkGives, HasPushed, MayFinish, MayPush, PushesOn};
+ghost use Rattle.query_exec.specs.Sink.{sink_kept, sink_nodes, spare_of, LendsKept, SinkEnds, HasPushed, MayFinish, MayPush, PushesOn};
 
 use crate::aggregate::AggregateSink;
 use crate::front::FirstRows;
@@ -115,28 +115,32 @@ impl Sink {
         }
     }
 
-    /// Returns the rows that it keeps, if these are what its step makes of the rows that it took in.
+    /// Returns the rows that it keeps, if these are what its step makes of the rows that it took in, or what it puts in order.
     pub(crate) fn front(&self) -> Option<FirstRows<'_>>
         ensures { LendsKept self.now result }
     {
         match self {
             Sink::Collect(kept) => Some(kept.lent()),
             Sink::Slice(sink) => Some(sink.kept.lent()),
-            Sink::TopN(_) | Sink::Sorted(_) | Sink::Aggregate(_) => None,
+            Sink::Sorted(sink) => Some(sink.kept.lent()),
+            Sink::TopN(_) | Sink::Aggregate(_) => None,
         }
     }
 
-    /// Returns what its step makes of all rows that it took in.
-    pub(crate) fn finish(self, alloc: Global) -> Result<Rows, AllocError>
+    /// Returns what its step makes of all rows that it took in, and the rows as they came, if it put them in order.
+    pub(crate) fn finish(self, alloc: Global) -> Result<(Rows, Option<Kept>), AllocError>
         requires { MayFinish self }
-        ensures { IfOk result (SinkGives self) }
+        ensures { IfOk result (λ made. SinkEnds self made.0 made.1) }
     {
         match self {
-            Sink::Collect(kept) => Ok(kept.into_rows(None)),
-            Sink::Slice(sink) => Ok(sink.finish()),
-            Sink::TopN(sink) => sink.finish(alloc),
-            Sink::Sorted(sink) => sink.finish(alloc),
-            Sink::Aggregate(sink) => sink.finish(alloc),
+            Sink::Collect(kept) => Ok((kept.into_rows(None), None)),
+            Sink::Slice(sink) => Ok((sink.finish(), None)),
+            Sink::TopN(sink) => Ok((sink.finish(alloc)?, None)),
+            Sink::Sorted(sink) => {
+                let (rows, kept) = sink.finish(alloc)?;
+                Ok((rows, Some(kept)))
+            }
+            Sink::Aggregate(sink) => Ok((sink.finish(alloc)?, None)),
         }
     }
 }

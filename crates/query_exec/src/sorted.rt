@@ -1,7 +1,7 @@
 //! A sink of all rows in the order of items that are columns.
-ghost use Rattle.std.specs.Prelude.{IfOk, OnOk};
+ghost use Rattle.std.specs.Prelude.{IfOk, OnOk, Some};
 ghost use Rattle.query_exec.specs.declared.sink.Sink.TheVariants as sink;
-ghost use Rattle.query_exec.specs.Sink.{MayFinish, MayPush, PushesOn, SinkGives};
+ghost use Rattle.query_exec.specs.Sink.{MayFinish, MayPush, PushesOn, SinkEnds};
 
 use crate::kept::Kept;
 use block_filter::Passed;
@@ -36,13 +36,14 @@ impl SortedSink {
         Ok(())
     }
 
-    /// Returns all rows in order.
-    pub(crate) fn finish(self, alloc: Global) -> Result<Rows, AllocError>
+    /// Returns all rows in order, and as they came.
+    pub(crate) fn finish(self, alloc: Global) -> Result<(Rows, Kept), AllocError>
         requires { MayFinish (sink.Sorted self) }
-        ensures { IfOk result (SinkGives (sink.Sorted self)) }
+        ensures { IfOk result (λ made. SinkEnds (sink.Sorted self) made.0 (Some made.1)) }
     {
         let SortedSink { kept, items, runs } = self;
         let numbers = runs.finish(alloc, &kept.columns, &items)?;
-        Ok(kept.with_numbers(alloc, numbers.as_slice())?)
+        let rows = kept.in_order(alloc, numbers.as_slice())?;
+        Ok((rows, kept))
     }
 }

@@ -4,7 +4,7 @@ use Rattle.std.specs.Prelude.{max}
 use Rattle.std.specs.List.{AllByRecursion, concat}
 use Rattle.std.proofs.lemmas.List.{append-nil, drop_more, take_more}
 use Rattle.std.proofs.lemmas.List.Folds.{concat-append}
-use Rattle.reply_text.specs.Pieces.{longest_of, AreSizesOf}
+use Rattle.reply_text.specs.Pieces.{longest_of, AreSizesOf, AreSizesWithin, IsNearLongest}
 use Rattle.reply_values.specs.Size.{told}
 
 longest_more : (pieces : List (List ℕ)) (piece : List ℕ) → longest_of (pieces ++ piece ∷ []) ≡ max (longest_of pieces) (length piece)
@@ -43,11 +43,15 @@ pieces_within [] most bound = tt
 pieces_within (piece ∷ pieces) most bound = (omega (arith, bound), pieces_within pieces most (omega (arith, bound)))
 
 -- where the number of all bytes was reported, it is their number
-pub all_told : (pieces : List (List ℕ)) (all longest : ℕ) → AreSizesOf pieces all longest → (all ≡ 2 ^ 64 - 1 → ⊥) → all ≡ length (concat pieces)
+pub all_told : (pieces : List (List ℕ)) (all longest : ℕ) → AreSizesWithin pieces all longest → (all ≡ 2 ^ 64 - 1 → ⊥) → all ≡ length (concat pieces)
 all_told pieces all longest are other = omega (arith, are.counted, other)
 
-pub longest_told : (pieces : List (List ℕ)) (all longest : ℕ) → AreSizesOf pieces all longest → (all ≡ 2 ^ 64 - 1 → ⊥) → longest ≡ longest_of pieces
-longest_told pieces all longest are other = omega (arith, are.counted, are.most, other, longest_within pieces)
+pub longest_told : (pieces : List (List ℕ)) (all longest : ℕ) → AreSizesWithin pieces all longest → (all ≡ 2 ^ 64 - 1 → ⊥) → IsNearLongest pieces longest
+longest_told pieces all longest are other = record { least = omega (arith, are.counted, are.least, other, longest_within pieces); most = are.most }
+
+-- a number that is the length of the longest is near to it
+pub sizes_within : (pieces : List (List ℕ)) (all longest : ℕ) → AreSizesOf pieces all longest → AreSizesWithin pieces all longest
+sizes_within pieces all longest are = record { counted = are.counted; least = omega (arith, are.most); most = omega (arith, are.most) }
 
 -- ---- the next of them
 

@@ -1,5 +1,5 @@
 -- The pieces that the bodies of rows are written in: what comes before the rows, each row, what comes after them.
-use Rattle.std.specs.Prelude.{◌≡◌, ℕ, ◌+◌, List, [], ◌∷◌, ◌++◌, Option, codes, length, map, max}
+use Rattle.std.specs.Prelude.{◌≡◌, ◌≤◌, ℕ, ◌+◌, List, [], ◌∷◌, ◌++◌, Option, codes, length, map, max}
 use Rattle.std.specs.List.{concat}
 use Rattle.cell_types.specs.Value.{CellValue}
 use Rattle.result_rows.specs.Rows.{RowsOf}
@@ -34,3 +34,14 @@ longest_of (piece ∷ pieces) = max (length piece) (longest_of pieces)
 pub record AreSizesOf (pieces : List (List ℕ)) (all longest : ℕ) : Type 0 where
   pub counted : all ≡ told (length (concat pieces))
   pub most : longest ≡ told (longest_of pieces)
+
+-- a number of bytes that no piece passes, and at most 2 more than the longest of them has
+pub record IsNearLongest (pieces : List (List ℕ)) (longest : ℕ) : Type 0 where
+  pub least : longest_of pieces ≤ longest
+  pub most : longest ≤ longest_of pieces + 2
+
+-- how many bytes they take in all, and a number of bytes near to that of the longest of them, as 64 bits tell it
+pub record AreSizesWithin (pieces : List (List ℕ)) (all longest : ℕ) : Type 0 where
+  pub counted : all ≡ told (length (concat pieces))
+  pub least : told (longest_of pieces) ≤ longest
+  pub most : longest ≤ longest_of pieces + 2

@@ -5,7 +5,7 @@ use Rattle.cell_texts.specs.Sizes.{frame_at}
 use Rattle.reply_values.specs.Printed.{printed_value}
 use Rattle.cell_texts.specs.declared.row_sizes.Frame.{Frame}
 use Rattle.cell_types.specs.Value.{CellValue}
-use Rattle.result_rows.specs.Rows.{RowsOf}
+use Rattle.result_rows.specs.Rows.{AreReordered, RowsOf}
 use Rattle.reply_text.specs.declared.row_sizes.RowSizes.{RowSizes}
 use Rattle.reply_text.specs.declared.sizes.Sizes.{Sizes}
 use Rattle.reply_text.specs.Csv.{row_line}
@@ -41,9 +41,16 @@ AreJsonSizes sizes count rows = AreFirstSizes sizes count rows (json_items rows.
 abbrev pub AreCsvSizes : RowSizes → ℕ → RowsOf → Type 0
 AreCsvSizes sizes count rows = AreFirstSizes sizes count rows (map row_line rows.rows)
 
--- some first rows of these were counted
+-- the first of these rows in some order were counted
 abbrev pub HaveJsonSizes : RowSizes → RowsOf → Type 0
-HaveJsonSizes sizes rows = (count : ℕ) × AreJsonSizes sizes count rows
+HaveJsonSizes sizes rows = (count : ℕ) × (others : RowsOf) × AreReordered others rows × AreJsonSizes sizes count others
 
 abbrev pub HaveCsvSizes : RowSizes → RowsOf → Type 0
-HaveCsvSizes sizes rows = (count : ℕ) × AreCsvSizes sizes count rows
+HaveCsvSizes sizes rows = (count : ℕ) × (others : RowsOf) × AreReordered others rows × AreCsvSizes sizes count others
+
+-- and all of them
+abbrev pub HaveAllJsonSizes : RowSizes → RowsOf → Type 0
+HaveAllJsonSizes sizes rows = (others : RowsOf) × AreReordered others rows × AreJsonSizes sizes (length rows.rows) others
+
+abbrev pub HaveAllCsvSizes : RowSizes → RowsOf → Type 0
+HaveAllCsvSizes sizes rows = (others : RowsOf) × AreReordered others rows × AreCsvSizes sizes (length rows.rows) others

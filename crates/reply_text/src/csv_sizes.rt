@@ -3,7 +3,7 @@ ghost use Rattle.std.specs.Prelude.{◌≡◌, ◌≤◌, length, map, string_by
 ghost use Rattle.std.specs.List.{flat_map};
 ghost use Rattle.reply_text.specs.Csv.{csv_line, csv_text, row_line};
 ghost use Rattle.reply_text.specs.Pieces.{csv_pieces, AreSizesOf};
-ghost use Rattle.reply_text.specs.RowSizes.{CountFirst, HaveCsvSizes};
+ghost use Rattle.reply_text.specs.RowSizes.{CountFirst, HaveAllCsvSizes, HaveCsvSizes};
 ghost use Rattle.reply_values.specs.Size.{told};
 
 use crate::counted::with_rows;
@@ -48,12 +48,24 @@ pub fn with_lines(before: Sizes, columns: &Columns, first: usize) -> Sizes
     with_rows::<false>(before, columns, first, frame)
 }
 
-/// Returns how many bytes the lines of rows take as CSV, of which some first rows were counted.
+/// Returns the sizes of all rows, which are counted anew unless all were.
+fn all_lines(rows: &Rows, counted: RowSizes) -> RowSizes
+    requires { HaveCsvSizes counted rows.now }
+    ensures { HaveAllCsvSizes result rows.now }
+{
+    if counted.len == rows.len() {
+        return counted;
+    }
+    let mut sizes = RowSizes::none();
+    sizes.count_csv(rows.columns());
+    sizes
+}
+
+/// Returns how many bytes the lines of rows take as CSV, of which some rows were counted.
 pub fn csv_sizes(rows: &Rows, counted: RowSizes) -> Sizes
     requires { HaveCsvSizes counted rows.now }
     ensures { AreSizesOf (csv_pieces rows.now) result.all result.longest }
 {
-    let mut counted = counted;
-    counted.count_csv(rows.columns());
-    counted.sizes.with(name_line_size(rows.names()))
+    let lines = all_lines(rows, counted);
+    lines.sizes.with(name_line_size(rows.names()))
 }

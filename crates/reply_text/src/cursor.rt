@@ -4,7 +4,7 @@ ghost use Rattle.std.specs.List.{concat};
 ghost use Rattle.reply_text.specs.Body.{row_text, rows_text};
 ghost use Rattle.reply_text.specs.Csv.{csv_text};
 ghost use Rattle.reply_text.specs.Inside.{body_pieces, MayLay};
-ghost use Rattle.reply_text.specs.Pieces.{csv_pieces, json_pieces, longest_of, AreSizesOf};
+ghost use Rattle.reply_text.specs.Pieces.{csv_pieces, json_pieces, AreSizesWithin, IsNearLongest};
 ghost use Rattle.reply_text.specs.RowSizes.{HaveCsvSizes, HaveJsonSizes};
 
 use crate::body::row_body;
@@ -47,9 +47,9 @@ impl Model for BodyCursor {
 /// Returns a body of pieces with the number of their bytes. `Err` if that has more than 64 bits.
 fn of_pieces(pieces: Pieces, sizes: Sizes) -> Result<BodyCursor, AllocError>
     requires lays { MayLay pieces }
-    requires sizes { AreSizesOf (body_pieces pieces) sizes.all sizes.longest }
+    requires sizes { AreSizesWithin (body_pieces pieces) sizes.all sizes.longest }
     ensures bytes { IfOk result (λ body. body.bytes ≡ concat (body_pieces pieces)) }
-    ensures longest { IfOk result (λ body. body.longest ≡ longest_of (body_pieces pieces)) }
+    ensures longest { IfOk result (λ body. IsNearLongest (body_pieces pieces) body.longest) }
 {
     if sizes.all == usize::MAX {
         return Err(AllocError);
@@ -69,12 +69,12 @@ impl BodyCursor {
     /// what stands after them. At an `Err` memory ran out, or the body has more bytes than 64 bits tell.
     pub fn json(alloc: Global, rows: Rows) -> Result<BodyCursor, AllocError>
         ensures bytes { IfOk result (λ body. body.bytes ≡ rows_text rows) }
-        ensures longest { IfOk result (λ body. body.longest ≡ longest_of (json_pieces rows)) }
+        ensures longest { IfOk result (λ body. IsNearLongest (json_pieces rows) body.longest) }
     {
         BodyCursor::json_counted(alloc, rows, RowSizes::none())
     }
 
-    /// Returns the same of rows of which some first ones were counted.
+    /// Returns the same of rows of which some were counted.
     pub fn json_counted(
         alloc: Global,
         rows: Rows,
@@ -82,7 +82,7 @@ impl BodyCursor {
     ) -> Result<BodyCursor, AllocError>
         requires { HaveJsonSizes counted rows }
         ensures bytes { IfOk result (λ body. body.bytes ≡ rows_text rows) }
-        ensures longest { IfOk result (λ body. body.longest ≡ longest_of (json_pieces rows)) }
+        ensures longest { IfOk result (λ body. IsNearLongest (json_pieces rows) body.longest) }
     {
         let heads = heads_of(alloc, rows.names())?;
         let mut opening = Vec::new(alloc);
@@ -96,16 +96,16 @@ impl BodyCursor {
     /// Returns rows as CSV: the line of the names, and a line for each row. At an `Err` the body has more bytes than 64 bits tell.
     pub fn csv(rows: Rows) -> Result<BodyCursor, AllocError>
         ensures bytes { IfOk result (λ body. body.bytes ≡ csv_text rows) }
-        ensures longest { IfOk result (λ body. body.longest ≡ longest_of (csv_pieces rows)) }
+        ensures longest { IfOk result (λ body. IsNearLongest (csv_pieces rows) body.longest) }
     {
         BodyCursor::csv_counted(rows, RowSizes::none())
     }
 
-    /// Returns the same of rows of which some first ones were counted.
+    /// Returns the same of rows of which some were counted.
     pub fn csv_counted(rows: Rows, counted: RowSizes) -> Result<BodyCursor, AllocError>
         requires { HaveCsvSizes counted rows }
         ensures bytes { IfOk result (λ body. body.bytes ≡ csv_text rows) }
-        ensures longest { IfOk result (λ body. body.longest ≡ longest_of (csv_pieces rows)) }
+        ensures longest { IfOk result (λ body. IsNearLongest (csv_pieces rows) body.longest) }
     {
         let sizes = csv_sizes(&rows, counted);
         let body = of_pieces(Pieces::Csv(rows), sizes)?;

@@ -2,8 +2,8 @@
 ghost use Rattle.std.specs.Prelude.{◌≡◌, ◌≤◌, length, map, string_bytes};
 ghost use Rattle.std.specs.List.{flat_map};
 ghost use Rattle.reply_text.specs.Json.{json_count};
-ghost use Rattle.reply_text.specs.Pieces.{json_items, json_opening, json_pieces, AreSizesOf};
-ghost use Rattle.reply_text.specs.RowSizes.{CountFirst, HaveJsonSizes, IsObjectFrame};
+ghost use Rattle.reply_text.specs.Pieces.{json_items, json_opening, json_pieces, AreSizesWithin};
+ghost use Rattle.reply_text.specs.RowSizes.{CountFirst, HaveAllJsonSizes, HaveJsonSizes, IsObjectFrame};
 ghost use Rattle.reply_text.specs.Size.{member_name, row_frame};
 ghost use Rattle.reply_values.specs.Size.{told};
 
@@ -75,12 +75,27 @@ fn opening_size(count: Option<u64>) -> usize
     count_size(count).saturating_add(10)
 }
 
-/// Returns how many bytes the pieces of rows take as a JSON object, of which some first rows were counted.
+/// Returns the sizes of all rows, which are counted anew unless all were.
+fn all_objects(rows: &Rows, counted: RowSizes) -> RowSizes
+    requires { HaveJsonSizes counted rows.now }
+    ensures { HaveAllJsonSizes result rows.now }
+{
+    if counted.len == rows.len() {
+        return counted;
+    }
+    let mut sizes = RowSizes::none();
+    sizes.count_json(rows.names(), rows.columns());
+    sizes
+}
+
+/// Returns how many bytes the pieces of rows take as a JSON object, of which some rows were counted.
 pub fn json_sizes(rows: &Rows, counted: RowSizes) -> Sizes
     requires { HaveJsonSizes counted rows.now }
-    ensures { AreSizesOf (json_pieces rows.now) result.all result.longest }
+    ensures { AreSizesWithin (json_pieces rows.now) result.all result.longest }
 {
-    let mut counted = counted;
-    counted.count_json(rows.names(), rows.columns());
-    counted.sizes.with(opening_size(rows.count())).with(2)
+    let objects = all_objects(rows, counted);
+    let sizes = objects.sizes.with(opening_size(rows.count())).with(2);
+    // The row that was counted first may have a comma before it.
+    let longest = sizes.longest.saturating_add(1);
+    Sizes { longest, ..sizes }
 }

@@ -1,6 +1,7 @@
 -- The rows of an answer (OData 4.01 Part 2, URL Conventions, section 4.3): names, the values under them row by row, and how many rows there are where that
 -- was asked for.
 use Rattle.std.specs.Prelude.{◌≡◌, ℕ, List, [], ◌∷◌, ◌++◌, Option, None}
+use Rattle.std.specs.List.Sorted.{IsPermutation}
 use Rattle.cell_types.specs.Value.{CellValue}
 use Rattle.csvw_meta.specs.Schema.{SchemaOf}
 use Rattle.table_store.specs.Table.{TableOf}
@@ -26,3 +27,8 @@ pub record BeginWith (rows : RowsOf) (names : List (List ℕ)) (first : List (Li
   pub names_are : rows.names ≡ names
   pub rest : List (List CellValue)
   pub rows_are : rows.rows ≡ first ++ rest
+
+-- the same rows under the same names, in another order
+pub record AreReordered (old new : RowsOf) : Type 0 where
+  pub names : new.names ≡ old.names
+  pub moved : IsPermutation old.rows new.rows

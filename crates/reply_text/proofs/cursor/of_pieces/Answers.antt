@@ -1,6 +1,5 @@
-use Rattle.std.proofs.Common.{◌≤◌, ◌<◌, ◌^◌, length, arith}
+use Rattle.std.proofs.Common.{◌<◌, ◌^◌, length, arith}
 use Rattle.reply_text.specs.Inside.{body_pieces}
-use Rattle.reply_text.specs.Pieces.{longest_of}
 use Rattle.reply_text.proofs.BoundLemmas.{all_told, longest_told, pieces_few, pieces_within}
 use Rattle.reply_text.proofs.CursorLemmas.{some_pieces}
 use Rattle.reply_text.proofs.cursor.of_pieces.Goals as goal
@@ -9,10 +8,9 @@ pub invariant_of-result : goal.invariant_of-result
 invariant_of-result c =
     let pieces = body_pieces c.args.pieces in
     let all = all_told pieces c.args.sizes.all c.args.sizes.longest c.requires.sizes (λ most. omega (arith, most, c.if-sizes-eq18446744073709551615.false)) in
-    let longest = longest_told pieces c.args.sizes.all c.args.sizes.longest c.requires.sizes (λ most. omega (arith, most, c.if-sizes-eq18446744073709551615.false)) in
-    let bound : longest_of pieces ≤ c.args.sizes.longest = omega (arith, longest) in
+    let bound = longest_told pieces c.args.sizes.all c.args.sizes.longest c.requires.sizes (λ most. omega (arith, most, c.if-sizes-eq18446744073709551615.false)) in
     let few : length pieces < 2 ^ 64 = omega (arith, all, pieces_few pieces (some_pieces c.args.pieces), c.requires.sizes.counted) in
-    record { lays = c.requires.lays; size = all; longest = pieces_within pieces c.args.sizes.longest bound; few = few }
+    record { lays = c.requires.lays; size = all; longest = pieces_within pieces c.args.sizes.longest bound.least; few = few }
 
 pub returns-clause-longest : goal.returns-clause-longest
 returns-clause-longest c =

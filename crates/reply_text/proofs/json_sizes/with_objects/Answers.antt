@@ -1,4 +1,4 @@
-use Rattle.std.proofs.Common.{map, string_bytes, arith, sym, ◌∙◌}
+use Rattle.std.proofs.Common.{map, string_bytes, sym, ◌∙◌}
 use Rattle.reply_text.proofs.RowSizeLemmas.{objects_in}
 use Rattle.reply_text.proofs.SizeLemmas.{length_mapped}
 use Rattle.reply_text.proofs.json_sizes.with_objects.Goals as goal

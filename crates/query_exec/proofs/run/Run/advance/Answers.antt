@@ -1,6 +1,6 @@
 use Rattle.std.proofs.Common.{◌≡◌, ◌+◌, Ok, Some, refl, ap, ◌∙◌, subst}
 use Rattle.query_exec.specs.Answer.{plan_answer}
-use Rattle.query_exec.specs.Run.{run_length, StepsTo}
+use Rattle.query_exec.specs.Run.{run_length, IsUnordered, StepsTo}
 use Rattle.query_exec.proofs.run.Run.advance.Goals as goal
 
 pub returns-in-Ok-None-clause-advances : goal.returns-in-Ok-None-clause-advances
@@ -9,6 +9,12 @@ returns-in-Ok-None-clause-advances c = λ plan table handed stands is.
 
 pub returns-in-Ok-Some-clause-advances : goal.returns-in-Ok-Some-clause-advances
 returns-in-Ok-Some-clause-advances c = λ plan table handed stands is.
-    let steps : (handed + 1 ≡ run_length plan table) × (plan_answer plan table ≡ Some c.in-Ok-Some.rows) =
+    let steps : (handed + 1 ≡ run_length plan table) × (plan_answer plan table ≡ Some c.in-Ok-Some.rows) × IsUnordered c.step.new.self plan table c.in-Ok-Some.rows =
     subst (StepsTo plan table handed c.step.new.self) (c.in-Ok-Some.is ∙ ap (λ r. Ok r) c.in-Ok-Some.field-0-is) (c.step.ensures.steps plan table handed stands is) in
-    (c.in-Ok-Some.rows, steps.0, steps.1, refl)
+    let unordered = steps.2 in (
+      c.in-Ok-Some.rows,
+      steps.0,
+      steps.1,
+      refl,
+      record { rows = c.in-Ok-Some.rows; gives = refl; unordered = record { wide = unordered.wide; unordered_is = unordered.unordered_is } },
+    )
