@@ -1,9 +1,8 @@
 -- Keys of groups and the values that they stand for.
-use Rattle.std.proofs.Common.{◌≡◌, ℕ, ◌<◌, Bool, Bor, List, [], ◌∷◌, length, map, get_or, position, refl, sym, ap, ◌∙◌}
+use Rattle.std.proofs.Common.{◌≡◌, Bool, List, [], ◌∷◌, map, position, refl}
 use Rattle.std.specs.Cmp.Lexicographic.{pointwise}
 use Rattle.std.specs.List.{list_any, position_or_len}
-use Rattle.std.specs.Map.Iter.{deref}
-use Rattle.std.proofs.lemmas.List.{get_or-map, length-map}
+use Rattle.std.proofs.lemmas.List.{length-map}
 use Rattle.cell_types.specs.Value.{CellValue, value_eq}
 use Rattle.query_meaning.specs.Apply.{same_values}
 
@@ -27,11 +26,3 @@ module _ {V : Type 0} (view : V → CellValue) (eq : V → V → Bool) (eq_is : 
 
     pub position_key : (ks : List K) → position (λ k. pointwise eq key (items k)) ks ≡ position (same_values (map view key)) (map (λ k. map view (items k)) ks)
     position_key ks = rw (place_key ks, length-map ks (λ k. map view (items k))) refl
-
--- ---- keys that are lent
-
-pub keys_long : {K : Type 0} (keys : List (Bor K)) (ks : List K) → map deref keys ≡ ks → length keys ≡ length ks
-keys_long keys ks e = sym (length-map keys deref) ∙ ap length e
-
-pub key_here : {K : Type 0} (keys : List (Bor K)) (ks : List K) → map deref keys ≡ ks → (i : ℕ) (key : Bor K) → i < length keys → key ≡ get_or keys i key → key.now ≡ get_or ks i key.now
-key_here keys ks e i key less at = ap (λ k. k.now) at ∙ sym (get_or-map deref keys i key key.now less) ∙ ap (λ xs. get_or xs i key.now) e

@@ -80,6 +80,11 @@ abbrev pub HasGatheredRows : Aggregator → List (List CellValue) → Type 0
 HasGatheredRows aggregator made = (places : Option (List ℕ)) (aggregates : List NamedAggregateOf) (rows : List (List CellValue)) → Gathers aggregator places aggregates rows
     → made ≡ gathered_rows places aggregates rows
 
+-- that many groups there are of the rows that joined: all rows are one
+abbrev pub HasGroupCount : Aggregator → ℕ → Type 0
+HasGroupCount aggregator count = (places : Option (List ℕ)) (aggregates : List NamedAggregateOf) (rows : List (List CellValue)) → Gathers aggregator places aggregates rows
+    → count ≡ length (group_keys places rows)
+
 -- places that are lent, if so
 abbrev pub lent_places : Option (Bor (List ℕ)) → Option (List ℕ)
 lent_places places = option_map (λ p. p.now) places

@@ -42,7 +42,7 @@ IsAccumulator (SumOfIntegers place) rows (accumulator.SumOfIntegers own sum) = (
 IsAccumulator (SumOfDecimals place) rows (accumulator.SumOfDecimals own sum) = (own ≡ place) × (sum ≡ sum_of (decimals_in place rows))
 IsAccumulator (Min place) rows (accumulator.Min own value) = (own ≡ place) × (value_view value ≡ computed_value rows (Min place))
 IsAccumulator (Max place) rows (accumulator.Max own value) = (own ≡ place) × (value_view value ≡ computed_value rows (Max place))
-IsAccumulator (CountDistinct place) rows (accumulator.CountDistinct own values) = (own ≡ place) × HoldsDistinct values (present_values place rows)
+IsAccumulator (CountDistinct place) rows (accumulator.CountDistinct own values) = (own ≡ place) × HoldsDistinct values.value (present_values place rows)
 IsAccumulator _ _ _ = ⊥
 
 -- of each aggregate

@@ -1,5 +1,5 @@
 //! What is computed of a column of some rows, to which more may join (OData Data Aggregation 4.0, section 3.1.3): nulls are passed over.
-ghost use Rattle.std.specs.Prelude.{◌≡◌, ◌<◌, ◌++◌, [], List, OnOk, length};
+ghost use Rattle.std.specs.Prelude.{◌≡◌, ◌<◌, ◌++◌, [], List, IfOk, OnOk, length};
 ghost use Rattle.std.specs.List.{All};
 ghost use Rattle.cell_types.specs.Value.{CellValue, value_view};
 ghost use Rattle.odata_query.specs.declared.aggregate.Aggregate.{Aggregate};
@@ -33,24 +33,24 @@ pub(crate) enum Accumulator {
     /// The greatest of their values in a column; null if they have none.
     Max(usize, Value<'static>),
     /// Their values in a column, each once.
-    CountDistinct(usize, Distinct),
+    CountDistinct(usize, Box<Distinct>),
 }
 
 impl Accumulator {
     /// Returns what no rows come to.
-    pub(crate) fn none(alloc: Global, aggregate: Aggregate) -> Accumulator
-        ensures { IsAccumulator aggregate [] result }
+    pub(crate) fn none(alloc: Global, aggregate: Aggregate) -> Result<Accumulator, AllocError>
+        ensures { IfOk result (IsAccumulator aggregate []) }
     {
         match aggregate {
-            Aggregate::Count => Accumulator::Count(0),
-            Aggregate::SumOfIntegers(place) => Accumulator::SumOfIntegers(place, None),
-            Aggregate::SumOfDecimals(place) => Accumulator::SumOfDecimals(place, None),
-            Aggregate::Min(place) => Accumulator::Min(place, Value::Null),
-            Aggregate::Max(place) => Accumulator::Max(place, Value::Null),
-            Aggregate::CountDistinct(place) => Accumulator::CountDistinct(
-                place,
-                Distinct::none(alloc),
-            ),
+            Aggregate::Count => Ok(Accumulator::Count(0)),
+            Aggregate::SumOfIntegers(place) => Ok(Accumulator::SumOfIntegers(place, None)),
+            Aggregate::SumOfDecimals(place) => Ok(Accumulator::SumOfDecimals(place, None)),
+            Aggregate::Min(place) => Ok(Accumulator::Min(place, Value::Null)),
+            Aggregate::Max(place) => Ok(Accumulator::Max(place, Value::Null)),
+            Aggregate::CountDistinct(place) => {
+                let none = Box::new(alloc, Distinct::none(alloc))?;
+                Ok(Accumulator::CountDistinct(place, none))
+            }
         }
     }
 
@@ -84,9 +84,7 @@ impl Accumulator {
         cell_types::values_are_ordered();
         let place = self.place();
         match self {
-            Accumulator::Count(count) => {
-                *count += numbers.len() as u64;
-            }
+            Accumulator::Count(count) => *count += numbers.len() as u64,
             Accumulator::SumOfIntegers(_, sum) => {
                 *sum = sum_behind(*sum, columns, numbers, place, NumberKind::Integer);
             }
@@ -116,8 +114,8 @@ impl Accumulator {
             Accumulator::Count(count) => Value::Int((*count).into()),
             Accumulator::SumOfIntegers(_, Some(sum)) => Value::Int(*sum),
             Accumulator::SumOfDecimals(_, Some(sum)) => Value::Decimal(*sum),
-            Accumulator::SumOfIntegers(_, None) => Value::Null,
-            Accumulator::SumOfDecimals(_, None) => Value::Null,
+            Accumulator::SumOfIntegers(_, None) | Accumulator::SumOfDecimals(_, None) =>
+                Value::Null,
             Accumulator::Min(_, value) | Accumulator::Max(_, value) => lent(value),
             Accumulator::CountDistinct(_, values) => Value::Int(values.values.len() as i128),
         }

@@ -22,7 +22,7 @@ pub(crate) fn accumulators_of_none(
 {
     let mut accumulators = Vec::with_capacity(alloc, aggregates.len())?;
     for aggregate in aggregates {
-        accumulators.push(Accumulator::none(alloc, *aggregate))?;
+        accumulators.push(Accumulator::none(alloc, *aggregate)?)?;
     }
     Ok(accumulators)
 }
@@ -51,19 +51,16 @@ pub(crate) fn join_each(
 /// Returns the values of a key, and after them what the accumulators at `shown` computed.
 pub(crate) fn row_of(
     alloc: Global,
-    key: &[Value<'static>],
+    key: Vec<Value<'static>>,
     accumulators: &[Accumulator],
     shown: &[usize],
 ) -> Result<Vec<Value<'static>>, AllocError>
     requires { All (λ place. place < length accumulators.now) shown.now }
     ensures { IfOk result (λ row. (aggregates : List Aggregate)
-        → IsRowOfAccumulators (map value_view key.now) aggregates shown.now accumulators.now
+        → IsRowOfAccumulators (map value_view key.entry.items) aggregates shown.now accumulators.now
         (map value_view row.items)) }
 {
-    let mut row = Vec::with_capacity(alloc, key.len())?;
-    for value in key {
-        row.push(owned(alloc, value)?)?;
-    }
+    let mut row = key;
     for place in shown {
         row.push(owned(alloc, &accumulators[*place].value())?)?;
     }

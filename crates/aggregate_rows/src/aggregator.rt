@@ -1,12 +1,11 @@
-//! Rows of `aggregate` and of `groupby` (OData Data Aggregation 4.0, sections 3.2.1 and 3.2.3), gathered while the rows come of which they
-//! are computed.
+//! Rows of `aggregate` and of `groupby` (OData Data Aggregation 4.0, sections 3.2.1 and 3.2.3), gathered while the rows come.
 ghost use Rattle.std.specs.Prelude.{◌≡◌, ◌≢◌, ◌↔◌, ◌<◌, ◌≤◌, ℕ, [], IfOk, IfSome, IsTrue, List, OnOk, Option, length, map, slice_index_or};
 ghost use Rattle.std.specs.List.{All};
 ghost use Rattle.cell_types.specs.Value.{CellValue};
 ghost use Rattle.odata_query.specs.declared.aggregate.Aggregate.TheVariants.{Count};
 ghost use Rattle.odata_query.specs.Aggregate.{named_view, NamedAggregateOf};
 ghost use Rattle.row_columns.specs.Picked.{numbered};
-ghost use Rattle.aggregate_rows.specs.Gathered.{gathered_rows, gathered_width, lent_places, plain_aggregates, AreOnce, Gathers, HasGatheredRows, HasGatheredWidth, Adjoins, MayJoin};
+ghost use Rattle.aggregate_rows.specs.Gathered.{gathered_rows, gathered_width, lent_places, plain_aggregates, AreOnce, Gathers, HasGatheredRows, HasGatheredWidth, HasGroupCount, Adjoins, MayJoin};
 ghost use Rattle.aggregate_rows.specs.Tallies.{FitsAll};
 
 use crate::groups::{Grouping, Groups};
@@ -81,6 +80,13 @@ impl Aggregator {
         }
     }
 
+    /// Returns how many groups there are of the rows that joined.
+    pub fn group_count(&self) -> usize
+        ensures { HasGroupCount self.now result }
+    {
+        self.groups.accumulators.len()
+    }
+
     /// Returns the one row of `aggregate`, or the rows of `groupby`, of all rows that joined, in columns of any. Groups are in the order of their first rows.
     pub fn finish(self, alloc: Global) -> Result<Columns, AllocError>
         requires { (places : Option (List ℕ)) × (aggregates : List NamedAggregateOf)
@@ -92,7 +98,8 @@ impl Aggregator {
             None => 0,
             Some(places) => places.len(),
         };
-        self.groups.rows(alloc, width, &self.shown)
+        let Aggregator { groups, shown, .. } = self;
+        groups.into_rows(alloc, width, &shown)
     }
 }
 

@@ -29,7 +29,6 @@ pub(crate) struct Distinct {
     /// The kind of the numbers that have marks.
     pub(crate) kind: NumberKind,
     pub(crate) span: Bounds,
-    /// A mark for each number of the span.
     pub(crate) marks: Vec<bool>,
 }
 

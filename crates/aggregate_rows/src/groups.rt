@@ -18,20 +18,17 @@ use row_columns::Columns;
 use row_selection::Selection;
 use std::alloc::{AllocError, Global};
 
-/// By what rows are grouped, and what is computed of each group.
+/// The places of the columns by whose values rows are grouped, and what is computed of each group.
 #[derive(Clone, Copy)]
 pub(crate) struct Grouping<'a> {
-    /// The places of the columns whose values make a group.
     pub(crate) places: &'a [usize],
     pub(crate) aggregates: &'a [Aggregate],
 }
 
-/// Groups in the order of their first rows.
+/// Groups in the order of their first rows: the values of each, and what is computed of its rows.
 #[derive(Drop)]
 pub(crate) struct Groups {
-    /// The values of each group.
     pub(crate) keys: KeyPlaces<Vec<Value<'static>>>,
-    /// What is computed of its rows.
     pub(crate) accumulators: Vec<Vec<Accumulator>>,
 }
 
@@ -55,9 +52,8 @@ impl Groups {
     {
         let mut groups = Groups::none(alloc);
         groups.keys.insert(Vec::new(alloc))?;
-        groups
-            .accumulators
-            .push(accumulators_of_none(alloc, aggregates)?)?;
+        let accumulators = accumulators_of_none(alloc, aggregates)?;
+        groups.accumulators.push(accumulators)?;
         Ok(groups)
     }
 
@@ -126,7 +122,7 @@ impl Groups {
             let number = numbers.at(i);
             read_key(&mut key, columns, number, places)?;
             let row = Selection::one(number);
-            let group = self.group_of(alloc, key.as_slice(), aggregates)?;
+            let group = self.group_of(alloc, &key, aggregates)?;
             join_each(alloc, &mut self.accumulators[group], columns, &row)?;
         }
         Ok(())
@@ -136,44 +132,47 @@ impl Groups {
     pub(crate) fn group_of(
         &mut self,
         alloc: Global,
-        key: &[Value<'_>],
+        key: &Vec<Value<'_>>,
         aggregates: &[Aggregate],
     ) -> Result<usize, AllocError>
-        ensures group { IfOk result (IsGroupOf self.new (map value_view key.now)) }
+        ensures group { IfOk result (IsGroupOf self.new (map value_view key.now.items)) }
         ensures more { OnOk result (HasGroupMore aggregates.now self.old self.new
-            (map value_view key.now)) }
+            (map value_view key.now.items)) }
     {
         cell_types::values_are_ordered();
         cell_types::values_compare_as_their_views();
-        match self.keys.place_of_list(key) {
+        match self.keys.place(key) {
             Some(group) => Ok(group),
             None => {
                 let group = self.keys.len();
                 let accumulators = accumulators_of_none(alloc, aggregates)?;
-                self.keys.insert(owned_key(alloc, key)?)?;
+                self.keys.insert(owned_key(alloc, key, aggregates.len())?)?;
                 self.accumulators.push(accumulators)?;
                 Ok(group)
             }
         }
     }
 
-    /// Returns a row for each group: its values, and what is computed of its rows by the aggregates at `shown`.
-    pub(crate) fn rows(
-        &self,
+    /// Returns a row for each group: its values, and what is computed of its rows by the aggregates at `shown`. Its values are moved there.
+    pub(crate) fn into_rows(
+        self,
         alloc: Global,
         width: usize,
         shown: &[usize],
     ) -> Result<Columns, AllocError>
         requires columns { width + length shown.now < 2 ^ 64 }
-        requires gathered { HaveShown self.now width shown.now }
+        requires gathered { HaveShown self width shown.now }
         ensures kinds { IfOk result (λ made.
             made.kinds ≡ replicate (width + length shown.now) any) }
-        ensures rows { IfOk result (λ made. MakesRows self.now shown.now made.rows) }
+        ensures rows { IfOk result (λ made. MakesRows self shown.now made.rows) }
     {
-        let keys = self.keys.in_order(alloc)?;
+        let Groups { keys, accumulators } = self;
+        let keys = keys.into_keys();
         let mut rows = Vec::with_capacity(alloc, keys.len())?;
-        for i in 0..keys.len() {
-            rows.push(row_of(alloc, keys[i].as_slice(), &self.accumulators[i], shown)?)?;
+        let mut group = 0;
+        for key in keys {
+            rows.push(row_of(alloc, key, &accumulators[group], shown)?)?;
+            group += 1;
         }
         Columns::of_rows(alloc, width + shown.len(), rows)
     }
@@ -198,11 +197,15 @@ pub(crate) fn read_key<'a>(
     Ok(())
 }
 
-/// Returns a copy of a key that lives on its own.
-fn owned_key(alloc: Global, key: &[Value<'_>]) -> Result<Vec<Value<'static>>, AllocError>
+/// Returns a copy of a key that lives on its own, with room for `more` values.
+fn owned_key(
+    alloc: Global,
+    key: &[Value<'_>],
+    more: usize,
+) -> Result<Vec<Value<'static>>, AllocError>
     ensures { IfOk result (λ copy. map value_view copy.items ≡ map value_view key.now) }
 {
-    let mut copy = Vec::with_capacity(alloc, key.len())?;
+    let mut copy = Vec::with_capacity(alloc, key.len().saturating_add(more))?;
     for value in key {
         copy.push(owned(alloc, value)?)?;
     }

@@ -1,6 +1,5 @@
 //! Aggregates of rows in columns, of all of them or of each group (OData Data Aggregation 4.0, section 3). An [`Aggregator`] is given the rows piece by
-//! piece and keeps of each group its values and what is computed of it so far; it gives the one row of `aggregate` or the rows of `groupby`:
-//! what the definitions compute of the list of all rows.
+//! piece, keeps of each group its values and what is computed of it so far, and gives the one row of `aggregate` or the rows of `groupby`.
 #![tactic(auto)]
 
 mod accumulator;

@@ -59,10 +59,8 @@ impl Groups {
         let mut known = none_known(alloc, codes.count)?;
         for i in 0..numbers.len() {
             let code = usize::from(codes.codes[i]);
-            let row = RowAt {
-                columns,
-                number: numbers.at(i),
-            };
+            let number = numbers.at(i);
+            let row = RowAt { columns, number };
             let group = self.group_of_row(alloc, row, grouping, &mut known[code])?;
             groups.push(group)?;
         }
@@ -117,7 +115,7 @@ impl Groups {
     {
         let mut key: Vec<Value<'a>> = Vec::with_capacity(alloc, grouping.places.len())?;
         read_key(&mut key, columns, number, grouping.places)?;
-        self.group_of(alloc, key.as_slice(), grouping.aggregates)
+        self.group_of(alloc, &key, grouping.aggregates)
     }
 
     /// Joins to each group the rows of its part.

@@ -1,5 +1,5 @@
 -- Crates above may cite this file: laws of lists alone.
-use Rattle.std.proofs.Common.{◌≡◌, ℕ, zero, suc, ◌+◌, List, [], ◌∷◌, ◌++◌, refl, ap, arith}
+use Rattle.std.proofs.Common.{◌≡◌, ℕ, zero, suc, ◌+◌, [], ◌∷◌, ◌++◌, refl, ap, arith}
 use Rattle.std.specs.List.{range_with_len}
 
 -- one number more

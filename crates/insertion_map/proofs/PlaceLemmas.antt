@@ -1,24 +1,17 @@
--- Keys and their places: what the entries of a map have, in the order of the places.
-use Rattle.std.proofs.Common.{◌≡◌, ℕ, zero, suc, ◌+◌, ◌<◌, ◌≤◌, Bool, true, false, not, cond, nat_eq, nat_lt, List, [], ◌∷◌, ◌++◌, length, map, get_or, Option, Some, None, position, All, Bor, refl, sym, ap, subst, ◌∙◌, inl, inr, arith}
-use Rattle.std.specs.Prelude.{set, unwrap_or}
-use Rattle.std.specs.Cmp.{IsEquivalence, nat_eq_equiv}
-use Rattle.std.specs.List.{cons_option, filter_map, list_any, position_or_len, range_with_len, slice_get, AllByRecursion, Contains, IsDistinct}
-use Rattle.std.specs.List.Sorted.{IsPermutation}
-use Rattle.std.specs.Map.Iter.{deref}
-use Rattle.std.specs.Map.{keys_of, values_of, lookup, set_value, IsKeyTest}
-use Rattle.std.specs.Option.{is_some, option_map, IfSome, MatchOption}
-use Rattle.std.proofs.lemmas.Bool.{cases_order, cond-false, cond-true, false_from_ne_true}
+-- Keys and their places: how a key is found from the last key that has its hash.
+use Rattle.std.proofs.Common.{◌≡◌, ◌⊎◌, ℕ, zero, suc, ◌+◌, ◌<◌, ◌≤◌, Bool, true, false, cond, nat_eq, nat_lt, List, [], ◌∷◌, ◌++◌, length, take, get_or, Option, Some, None, position, refl, sym, ap, subst, ◌∙◌, inl, inr, arith, length-append}
+use Rattle.std.proofs.Math.Seq.{get_or-append_seam, take-append_seam}
+use Rattle.std.specs.Prelude.{unwrap_or}
+use Rattle.std.specs.Cmp.{IsEquivalence}
+use Rattle.std.specs.List.{list_any, position_or_len, slice_get, IsDistinct}
+use Rattle.std.specs.Map.{lookup}
+use Rattle.std.proofs.lemmas.Bool.{cases_order, false_from_ne_true}
 use Rattle.std.proofs.lemmas.Bool.Decides.{nat_tests}
-use Rattle.std.proofs.lemmas.List.{get_or-map, get_or-set_other, get_or-set_same, length-map, same_lists}
-use Rattle.std.proofs.lemmas.List.Elements.{recursion_from_All, All-cons, All-get_or, All-nil, All-weaker, Contains-get_or, filter_map-append}
-use Rattle.std.proofs.lemmas.List.Sorted.{length_permutation, All-permutation, Contains-permutation, IsPermutation-map}
+use Rattle.std.proofs.lemmas.List.{get_or-append-add, get_or-take, get_or_append_left, length-take-le}
 use Rattle.std.proofs.lemmas.List.Sums.{position_or_len_is}
-use Rattle.std.proofs.lemmas.Map.Entries.{lookup_from_place, place_from_lookup}
-use Rattle.std.proofs.lemmas.Map.Keys.{any_passes_from_place, apart_from_distinct, IsDistinct-cons, IsDistinct-from_apart, IsDistinct-IsPermutation}
-use Rattle.std.proofs.lemmas.Map.Views.{IfSome-lookup_from_All}
-use Rattle.std.proofs.lemmas.Option.{none-some, same_Some, some_pair_parts, slice_get-get_or, slice_get-map, slice_get_within, get_or_from_slice_get}
-use Rattle.insertion_map.proofs.ListLaws.{range_with_len-suc}
-use Rattle.insertion_map.specs.Places.{insert_key, key_of_place, keys_by_place, IsPlacing}
+use Rattle.std.proofs.lemmas.Map.Keys.{any_passes_from_place, apart_from_distinct, IsDistinct-from_apart, IsDistinct-push}
+use Rattle.std.proofs.lemmas.Option.{none-some, same_Some, slice_get-get_or, slice_get_within, get_or_from_slice_get}
+use Rattle.insertion_map.specs.Places.{before_at, AreChained, IsFromPlace}
 
 -- ---- the first place in a list
 position-here : {X : Type 0} (p : X → Bool) (xs : List X) (i : ℕ) (x : X) → slice_get xs i ≡ Some x → p x ≡ true
@@ -43,224 +36,247 @@ any-nowhere : {X : Type 0} (p : X → Bool) (xs : List X) → ((k : ℕ) (x : X)
 any-nowhere p [] lacks = refl
 any-nowhere p (x ∷ xs) lacks = rw (lacks 0 x refl, any-nowhere p xs (λ k y. lacks (suc k) y)) refl
 
--- ---- a range of numbers
+-- ---- an element that is read
+pub here-within : {X : Type 0} {P : X → Type 0} (xs : List X) (i : ℕ) → (x : X) × (slice_get xs i ≡ Some x) × P x → i < length xs
+here-within xs i here = slice_get_within xs i here.0 here.1
 
-same_along : {K : Type 0} (h g : ℕ → Option K) (a n : ℕ) → ((i : ℕ) → a ≤ i → i < a + n → h i ≡ g i) → filter_map h (range_with_len a n) ≡ filter_map g (range_with_len a n)
-same_along h g a zero same = refl
-same_along h g a (suc n) same =
-    ap (λ o. cons_option o (filter_map h (range_with_len (a + 1) n))) (same a (omega arith) (omega arith))
-    ∙ ap (cons_option (g a)) (same_along h g (a + 1) n (λ i from to. same i (omega arith) (omega arith)))
+pub here-at : {X : Type 0} {P : X → Type 0} (xs : List X) (i : ℕ) (y : X) → (x : X) × (slice_get xs i ≡ Some x) × P x → y ≡ get_or xs i y → slice_get xs i ≡ Some y
+here-at xs i y here is = slice_get-get_or xs i y (slice_get_within xs i here.0 here.1) ∙ ap (λ x. Some x) (sym is)
 
--- where each number has something
-first_of : {K : Type 0} (h : ℕ → Option K) (a n : ℕ) (k : K) → h a ≡ Some k → filter_map h (range_with_len a (suc n)) ≡ k ∷ filter_map h (range_with_len (a + 1) n)
-first_of h a n k e = ap (λ o. cons_option o (filter_map h (range_with_len (a + 1) n))) e
+-- ---- one element more
+pushed-old : {X : Type 0} (xs : List X) (y : X) (i : ℕ) (x : X) → slice_get xs i ≡ Some x → slice_get (xs ++ y ∷ []) i ≡ Some x
+pushed-old [] y i x e = absurd (none-some x e)
+pushed-old (z ∷ xs) y zero x e = e
+pushed-old (z ∷ xs) y (suc i) x e = pushed-old xs y i x e
 
-length_along : {K : Type 0} (h : ℕ → Option K) (a n : ℕ) → ((i : ℕ) → a ≤ i → i < a + n → (k : K) × (h i ≡ Some k)) → length (filter_map h (range_with_len a n)) ≡ n
-length_along h a zero each = refl
-length_along h a (suc n) each =
-    let here = each a (omega arith) (omega arith) in
-    ap length (first_of h a n here.0 here.1) ∙ ap suc (length_along h (a + 1) n (λ i from to. each i (omega arith) (omega arith)))
+pushed-cases : {X : Type 0} (xs : List X) (y : X) (i : ℕ) (x : X) → slice_get (xs ++ y ∷ []) i ≡ Some x → (slice_get xs i ≡ Some x) ⊎ ((i ≡ length xs) × (x ≡ y))
+pushed-cases [] y zero x e = inr (refl, sym (same_Some y x e))
+pushed-cases [] y (suc i) x e = absurd (none-some x e)
+pushed-cases (z ∷ xs) y zero x e = inl e
+pushed-cases (z ∷ xs) y (suc i) x e = elim (pushed-cases xs y i x e) [ inl h ↦ inl h | inr h ↦ inr (ap suc h.0, h.1) ]
 
-get_along : {K : Type 0} (h : ℕ → Option K) (a n : ℕ) → ((i : ℕ) → a ≤ i → i < a + n → (k : K) × (h i ≡ Some k)) → (j : ℕ) → j < n → slice_get (filter_map h (range_with_len a n)) j ≡ h (a + j)
-get_along h a zero each j less = absurd (omega arith)
-get_along h a (suc n) each zero less =
-    let here = each a (omega arith) (omega arith) in
-    let e : a ≡ a + 0 = omega arith in
-    ap (λ xs. slice_get xs 0) (first_of h a n here.0 here.1) ∙ sym here.1 ∙ ap h e
-get_along h a (suc n) each (suc j) less =
-    let here = each a (omega arith) (omega arith) in
-    let e : (a + 1) + j ≡ a + suc j = omega arith in
-    ap (λ xs. slice_get xs (suc j)) (first_of h a n here.0 here.1)
-    ∙ get_along h (a + 1) n (λ i from to. each i (omega arith) (omega arith)) j (omega arith) ∙ ap h e
+pub cut-last : {X : Type 0} (xs : List X) (y : X) (n : ℕ) → n ≡ length xs → take n (xs ++ y ∷ []) ≡ xs
+cut-last xs y n e = ap (λ n. take n (xs ++ y ∷ [])) e ∙ take-append_seam xs (y ∷ [])
 
--- ---- entries with the place first
-abbrev swap : {K : Type 0} → K × ℕ → ℕ × K
-swap e = (e.1, e.0)
+-- the places before, cut and with one more
+before-old : (before : List ℕ) (n x p : ℕ) → n ≤ length before → p < n → before_at (take n before ++ x ∷ []) p ≡ before_at before p
+before-old before n x p long less =
+    get_or_append_left (take n before) (x ∷ []) 0 p (omega (arith, length-take-le n before long)) ∙ get_or-take n before p 0 less
 
-keys_swapped : {K : Type 0} (es : List (K × ℕ)) → keys_of (map swap es) ≡ values_of es
-keys_swapped [] = refl
-keys_swapped (e ∷ es) = ap (λ ps. e.1 ∷ ps) (keys_swapped es)
+before-last : (before : List ℕ) (n x : ℕ) → n ≤ length before → before_at (take n before ++ x ∷ []) n ≡ x
+before-last before n x long =
+    let e : n ≡ length (take n before) + 0 = omega (arith, length-take-le n before long) in
+    ap (before_at (take n before ++ x ∷ [])) e ∙ get_or-append-add (take n before) (x ∷ []) 0 0
 
-unswap : {K : Type 0} (o : Option (K × ℕ)) (p : ℕ) (k : K) → option_map swap o ≡ Some (p, k) → o ≡ Some (k, p)
-unswap None p k e = absurd (none-some (p, k) e)
-unswap (Some e) p k h = ap (λ t. Some (t.1, t.0)) (same_Some (e.1, e.0) (p, k) h)
+-- ---- keys
+module _ {K : Type 0} {eq : K → K → Bool} (laws : IsEquivalence eq) (hash : K → ℕ) (alike : (x y : K) → eq x y ≡ true → hash x ≡ hash y) where
+  -- no key is equal to those at two places
+  one-place : (keys : List K) → IsDistinct eq keys → (key x y : K) (i j : ℕ) → slice_get keys i ≡ Some x → slice_get keys j ≡ Some y → eq key x ≡ true → eq key y ≡ true → i < j → ⊥
+  one-place keys distinct key x y i j at-i at-j is-x is-y less =
+      let apart : eq (get_or keys i x) (get_or keys j x) ≡ false = apart_from_distinct eq keys i j x distinct less (slice_get_within keys j y at-j) in
+      let differ : eq x y ≡ false =
+      ap (λ a. eq a y) (sym (get_or_from_slice_get keys i x x at-i)) ∙ ap (λ b. eq (get_or keys i x) b) (sym (get_or_from_slice_get keys j y x at-j)) ∙ apart in
+      let same : eq x y ≡ true = sym (laws.congr key x y is-x) ∙ is-y in
+      grind (arith, differ, same)
 
--- a place has a key just where an entry has both
-entry_at : {K : Type 0} (es : List (K × ℕ)) (p : ℕ) (k : K) → key_of_place es p ≡ Some k → (i : ℕ) × (slice_get es i ≡ Some (k, p))
-entry_at es p k e =
-    let at = place_from_lookup (nat_eq p) (map swap es) k e in
-    let same : p ≡ at.1 = grind (arith, nat_tests, at.3) in
-    (at.0, unswap (slice_get es at.0) p k (sym (slice_get-map swap es at.0) ∙ at.2 ∙ ap (λ q. Some (q, k)) (sym same)))
+  module _ (keys : List K) (before : List ℕ) (key : K) (place : ℕ) (from : IsFromPlace eq hash keys before key place) (k : K) (at : slice_get keys place ≡ Some k) where
+    own-hash : hash k ≡ hash key
+    own-hash = ap hash (same_Some k from.here.0 (sym at ∙ from.here.1)) ∙ from.here.2
 
-at_entry : {K : Type 0} (es : List (K × ℕ)) → IsDistinct nat_eq (values_of es) → (i : ℕ) (k : K) (p : ℕ) → slice_get es i ≡ Some (k, p) → key_of_place es p ≡ Some k
-at_entry es apart i k p e =
-    lookup_from_place nat_eq_equiv (map swap es) i p k (subst (IsDistinct nat_eq) (sym (keys_swapped es)) apart) (slice_get-map swap es i ∙ ap (option_map swap) e)
+    pub found-here : eq key k ≡ true → position (eq key) keys ≡ Some place
+    found-here is =
+        position-here (eq key) keys place k at is
+        (λ q j less at-q. false_from_ne_true (eq key j) (λ is-j. one-place keys from.distinct key j k q place at-q at is-j is less))
 
--- so it stays where the entries move, and others come
-at_moved : {K : Type 0} (es fs : List (K × ℕ)) → IsPermutation es fs → IsDistinct nat_eq (values_of fs) → (p : ℕ) (k : K) → (i : ℕ) → slice_get es i ≡ Some (k, p) → key_of_place fs p ≡ Some k
-at_moved es fs moved apart p k i e =
-    let within = slice_get_within es i (k, p) e in
-    let among : Contains es (k, p) = subst (Contains es) (get_or_from_slice_get es i (k, p) (k, p) e) (Contains-get_or es i (k, p) within) in
-    let there = Contains-permutation es fs (k, p) moved among in
-    at_entry fs apart there.0 k p (slice_get-get_or fs there.0 (k, p) there.1 ∙ ap (λ x. Some x) there.2)
+    pub any-here : eq key k ≡ true → list_any (eq key) keys ≡ true
+    any-here is = any_passes_from_place (eq key) keys place k at is
 
--- a value that is put in the place of one that is the same
-set_at : {K : Type 0} (b : Bool) (e : K × ℕ) (rest es : List (K × ℕ)) (found : Option ℕ) (p : ℕ) → (found ≡ Some p → rest ≡ es) → cond b (Some e.1) found ≡ Some p → cond b ((e.0, p) ∷ es) (e ∷ rest) ≡ e ∷ es
-set_at true e rest es found p same h = ap (λ q. (e.0, q) ∷ es) (sym (same_Some e.1 p h))
-set_at false e rest es found p same h = ap (λ xs. e ∷ xs) (same h)
+    -- a key elsewhere that is equal to the one that is looked for
+    earlier : eq key k ≡ false → (q : ℕ) (j : K) → slice_get keys q ≡ Some j → eq key j ≡ true → (before_at before place < place) × (q ≤ before_at before place)
+    earlier other q j at-q is =
+        let most = from.later q j at-q is in
+        elim (cases_order q place) [
+          | inl same ↦
+              let one : j ≡ k = same_Some j k (sym at-q ∙ ap (slice_get keys) same ∙ at) in
+              absurd (grind (arith, is, other, ap (eq key) one))
+          | inr (inl less) ↦ from.linked.nearest place q k j at at-q less (sym (alike key j is) ∙ sym own-hash)
+          | inr (inr more) ↦ absurd (omega arith)
+        ]
 
-set_same : {K : Type 0} (test : K → Bool) (es : List (K × ℕ)) (p : ℕ) → lookup test es ≡ Some p → set_value test es p ≡ es
-set_same test [] p h = refl
-set_same test (e ∷ es) p h = set_at (test e.0) e (set_value test es p) es (lookup test es) p (set_same test es p) h
+    pub lead-on : eq key k ≡ false → before_at before place < place → IsFromPlace eq hash keys before key (before_at before place)
+    lead-on other less =
+        let there = from.linked.same place k at less in
+        record {
+          distinct = from.distinct;
+          linked = from.linked;
+          here = (there.0, there.1, there.2 ∙ own-hash);
+          later = λ q j at-q is. (earlier other q j at-q is).1;
+        }
 
-elim_any : {X : Type 0} (xs : List X) → 0 < length xs → X
-elim_any [] h = absurd (omega arith)
-elim_any (x ∷ xs) h = x
+    lacks : eq key k ≡ false → place ≤ before_at before place → (q : ℕ) (j : K) → slice_get keys q ≡ Some j → eq key j ≡ false
+    lacks other ends q j at-q = false_from_ne_true (eq key j) (λ is. let less = (earlier other q j at-q is).0 in omega arith)
 
--- ---- a walk along the entries, each of which puts its key at its place
-pub one_more : {K : Type 0} (es : List (K × ℕ)) (keys : List (Bor K)) (n : ℕ) (key : Bor K) (place : ℕ) → IsDistinct nat_eq (values_of es)
-    → place < length keys → slice_get es n ≡ Some (key.now, place)
-    → ((i : ℕ) (k : K) (p : ℕ) (d : Bor K) → i < n → slice_get es i ≡ Some (k, p) → (get_or keys p d).now ≡ k)
-    → (i : ℕ) (k : K) (p : ℕ) (d : Bor K) → i < suc n → slice_get es i ≡ Some (k, p) → (get_or (set keys place key) p d).now ≡ k
-one_more es keys n key place apart within here stand i k p d less at =
-    elim (cases_order i n) [
-      | inl same ↦
-          let both = some_pair_parts key.now k place p (sym here ∙ ap (slice_get es) (sym same) ∙ at) in
-          ap (λ q. (get_or (set keys place key) q d).now) (sym both.1) ∙ ap (λ b. b.now) (get_or-set_same keys place key d within) ∙ both.0
-      | inr (inl before) ↦
-          let other = apart_from_distinct nat_eq (values_of es) i n 0 apart before (omega (arith, length-map es (λ e. e.1), slice_get_within es n (key.now, place) here)) in
-          let mine : get_or (values_of es) i 0 ≡ p = get_or_from_slice_get (values_of es) i p 0 (slice_get-map (λ e. e.1) es i ∙ ap (option_map (λ e. e.1)) at) in
-          let its : get_or (values_of es) n 0 ≡ place = get_or_from_slice_get (values_of es) n place 0 (slice_get-map (λ e. e.1) es n ∙ ap (option_map (λ e. e.1)) here) in
-          let differ : nat_eq p place ≡ false = rw (sym mine, sym its) other in
-          ap (λ b. b.now) (get_or-set_other keys place p key d (λ e. let e : p ≡ place = e in grind (arith, nat_tests, differ))) ∙ stand i k p d before at
-      | inr (inr after) ↦ absurd (omega arith)
-    ]
+    pub found-nowhere : eq key k ≡ false → place ≤ before_at before place → position (eq key) keys ≡ None
+    found-nowhere other ends = position-nowhere (eq key) keys (lacks other ends)
 
--- ---- keys with their places
-pub nothing-placed : {K : Type 0} (eq : K → K → Bool) (es : List (K × ℕ)) → es ≡ [] → IsDistinct eq (keys_of es) → IsPlacing eq es
-nothing-placed eq es e unique =
-    subst (IsPlacing eq) (sym e)
+    pub none-here : eq key k ≡ false → place ≤ before_at before place → list_any (eq key) keys ≡ false
+    none-here other ends = any-nowhere (eq key) keys (lacks other ends)
+
+  module _ (keys : List K) (last : List (ℕ × ℕ)) (before : List ℕ) (chained : AreChained eq hash keys last before) (key : K) where
+    pub from-last : (place : ℕ) → lookup (nat_eq (hash key)) last ≡ Some place → IsFromPlace eq hash keys before key place
+    from-last place e =
+        record {
+          distinct = chained.distinct;
+          linked = chained.linked;
+          here = chained.lasts.within (hash key) place e;
+          later = λ q j at is.
+              let its = chained.lasts.each q j at in
+              let same : its.0 ≡ place = same_Some its.0 place (sym its.1 ∙ ap (λ h. lookup (nat_eq h) last) (sym (alike key j is)) ∙ e) in
+              omega (arith, its.2, same);
+        }
+
+    no-place : lookup (nat_eq (hash key)) last ≡ None → (q : ℕ) (j : K) → slice_get keys q ≡ Some j → eq key j ≡ false
+    no-place e q j at =
+        false_from_ne_true (eq key j)
+        (λ is. let its = chained.lasts.each q j at in none-some its.0 (sym e ∙ ap (λ h. lookup (nat_eq h) last) (alike key j is) ∙ its.1))
+
+    pub found-in-none : lookup (nat_eq (hash key)) last ≡ None → position (eq key) keys ≡ None
+    found-in-none e = position-nowhere (eq key) keys (no-place e)
+
+    pub none-of-hash : lookup (nat_eq (hash key)) last ≡ None → list_any (eq key) keys ≡ false
+    none-of-hash e = any-nowhere (eq key) keys (no-place e)
+
+    -- what is after the last place counts for nothing
+    pub still-chained : (x : ℕ) → AreChained eq hash keys last (take (length keys) before ++ x ∷ [])
+    still-chained x =
+        let old : (p : ℕ) (k : K) → slice_get keys p ≡ Some k → before_at (take (length keys) before ++ x ∷ []) p ≡ before_at before p =
+        λ p k at. before-old before (length keys) x p chained.linked.long (slice_get_within keys p k at) in
+        record {
+          distinct = chained.distinct;
+          linked = record {
+            long = omega (arith, length-append (take (length keys) before) (x ∷ []), length-take-le (length keys) before chained.linked.long);
+            nearest = λ p q k j at at-q less is.
+                let was = chained.linked.nearest p q k j at at-q less is in
+                (omega (arith, old p k at, was.0), omega (arith, old p k at, was.1));
+            same = λ p k at less.
+                let was = chained.linked.same p k at (omega (arith, old p k at, less)) in
+                (was.0, ap (slice_get keys) (old p k at) ∙ was.1, was.2);
+          };
+          lasts = chained.lasts;
+        }
+
+    module _ (new : list_any (eq key) keys ≡ false) (more : List (ℕ × ℕ)) (updates : (h : ℕ) → lookup (nat_eq h) more ≡ cond (nat_eq (hash key) h) (Some (length keys)) (lookup (nat_eq h) last)) where
+      abbrev n : ℕ
+      n = length keys
+
+      abbrev x : ℕ
+      x = unwrap_or (lookup (nat_eq (hash key)) last) n
+
+      abbrev keys-more : List K
+      keys-more = keys ++ key ∷ []
+
+      abbrev before-more : List ℕ
+      before-more = take n before ++ x ∷ []
+
+      its-own : (h : ℕ) → h ≡ hash key → lookup (nat_eq h) more ≡ Some n
+      its-own h e = let same : nat_eq (hash key) h ≡ true = grind (arith, nat_tests) in updates h ∙ rw same refl
+
+      another : (h : ℕ) → (h ≡ hash key → ⊥) → lookup (nat_eq h) more ≡ lookup (nat_eq h) last
+      another h e = let differ : nat_eq (hash key) h ≡ false = grind (arith, nat_tests, e) in updates h ∙ rw differ refl
+
+      -- the nearest key before the new one
+      last-before : (q : ℕ) (j : K) → slice_get keys q ≡ Some j → hash j ≡ hash key → (x < n) × (q ≤ x)
+      last-before q j at is =
+          let its = chained.lasts.each q j at in
+          let e : lookup (nat_eq (hash key)) last ≡ Some its.0 = ap (λ h. lookup (nat_eq h) last) (sym is) ∙ its.1 in
+          let k = chained.lasts.within (hash key) its.0 e in
+          let found : x ≡ its.0 = ap (λ o. unwrap_or o n) e in
+          let within : its.0 < n = slice_get_within keys its.0 k.0 k.1 in
+          (omega (arith, found, within), omega (arith, found, its.2))
+
+      key-of : (o : Option ℕ) → lookup (nat_eq (hash key)) last ≡ o → unwrap_or o n < n → (j : K) × (slice_get keys (unwrap_or o n) ≡ Some j) × (hash j ≡ hash key)
+      key-of None e less = absurd (omega arith)
+      key-of (Some p) e less = chained.lasts.within (hash key) p e
+
+      here-last : (p : ℕ) → p ≡ n → before_at before-more p ≡ x
+      here-last p e = ap (before_at before-more) e ∙ before-last before n x chained.linked.long
+
+      here-old : (p : ℕ) (k : K) → slice_get keys p ≡ Some k → before_at before-more p ≡ before_at before p
+      here-old p k at = before-old before n x p chained.linked.long (slice_get_within keys p k at)
+
+      nearest-more : (p q : ℕ) (k j : K) → q < p → hash j ≡ hash k → (slice_get keys p ≡ Some k) ⊎ ((p ≡ n) × (k ≡ key)) → (slice_get keys q ≡ Some j) ⊎ ((q ≡ n) × (j ≡ key))
+          → (before_at before-more p < p) × (q ≤ before_at before-more p)
+      nearest-more p q k j less is (inl at) (inl at-q) =
+          let old = chained.linked.nearest p q k j at at-q less is in
+          let e = here-old p k at in
+          (omega (arith, e, old.0), omega (arith, e, old.1))
+      nearest-more p q k j less is (inl at) (inr last) = let within = slice_get_within keys p k at in absurd (omega (arith, last.0, within, less))
+      nearest-more p q k j less is (inr here) (inl at-q) =
+          let h = last-before q j at-q (is ∙ ap hash here.1) in
+          let e = here-last p here.0 in
+          (omega (arith, e, here.0, h.0), omega (arith, e, h.1))
+      nearest-more p q k j less is (inr here) (inr last) = absurd (omega (arith, here.0, last.0, less))
+
+      same-more : (p : ℕ) (k : K) → before_at before-more p < p → (slice_get keys p ≡ Some k) ⊎ ((p ≡ n) × (k ≡ key))
+          → (j : K) × (slice_get keys-more (before_at before-more p) ≡ Some j) × (hash j ≡ hash k)
+      same-more p k less (inl at) =
+          let e = here-old p k at in
+          let old = chained.linked.same p k at (omega (arith, e, less)) in
+          (old.0, ap (slice_get keys-more) e ∙ pushed-old keys key (before_at before p) old.0 old.1, old.2)
+      same-more p k less (inr here) =
+          let e = here-last p here.0 in
+          let old = key-of (lookup (nat_eq (hash key)) last) refl (omega (arith, e, here.0, less)) in
+          (old.0, ap (slice_get keys-more) e ∙ pushed-old keys key x old.0 old.1, old.2 ∙ sym (ap hash here.1))
+
+      each-more : (q : ℕ) (j : K) → (slice_get keys q ≡ Some j) ⊎ ((q ≡ n) × (j ≡ key)) → (p : ℕ) × (lookup (nat_eq (hash j)) more ≡ Some p) × (q ≤ p)
+      each-more q j (inr here) = (n, its-own (hash j) (ap hash here.1), omega (arith, here.0))
+      each-more q j (inl at) =
+          let within = slice_get_within keys q j at in
+          let old = chained.lasts.each q j at in
+          elim (cases_order (hash j) (hash key)) [
+            | inl same ↦ (n, its-own (hash j) same, omega (arith, within))
+            | inr (inl less) ↦ (old.0, another (hash j) (λ e. omega (arith, e, less)) ∙ old.1, old.2)
+            | inr (inr more) ↦ (old.0, another (hash j) (λ e. omega (arith, e, more)) ∙ old.1, old.2)
+          ]
+
+      within-old : (h p : ℕ) → (h ≡ hash key → ⊥) → lookup (nat_eq h) more ≡ Some p → (k : K) × (slice_get keys-more p ≡ Some k) × (hash k ≡ h)
+      within-old h p other e =
+          let old = chained.lasts.within h p (sym (another h other) ∙ e) in
+          (old.0, pushed-old keys key p old.0 old.1, old.2)
+
+      within-more : (h p : ℕ) → lookup (nat_eq h) more ≡ Some p → (k : K) × (slice_get keys-more p ≡ Some k) × (hash k ≡ h)
+      within-more h p e =
+          elim (cases_order h (hash key)) [
+            | inl same ↦
+                let last : n ≡ p = same_Some n p (sym (its-own h same) ∙ e) in
+                (key, ap (slice_get keys-more) (sym last) ∙ (slice_get-get_or keys-more n key (omega (arith, length-append keys (key ∷ []))) ∙ ap (λ k. Some k) (get_or-append_seam keys key [] key)), sym same)
+            | inr (inl less) ↦ within-old h p (λ e. omega (arith, e, less)) e
+            | inr (inr more) ↦ within-old h p (λ e. omega (arith, e, more)) e
+          ]
+
+      pub one-more : AreChained eq hash keys-more more before-more
+      one-more =
+          record {
+            distinct = IsDistinct-push laws keys key chained.distinct new;
+            linked = record {
+              long = omega (arith, length-append keys (key ∷ []), length-append (take n before) (x ∷ []), length-take-le n before chained.linked.long);
+              nearest = λ p q k j at at-q less is. nearest-more p q k j less is (pushed-cases keys key p k at) (pushed-cases keys key q j at-q);
+              same = λ p k at less. same-more p k less (pushed-cases keys key p k at);
+            };
+            lasts = record { each = λ q j at. each-more q j (pushed-cases keys key q j at); within = within-more };
+          }
+
+-- no keys
+pub nothing-chained : {K : Type 0} (eq : K → K → Bool) (hash : K → ℕ) (keys : List K) (last : List (ℕ × ℕ)) (before : List ℕ) → keys ≡ [] → last ≡ [] → AreChained eq hash keys last before
+nothing-chained eq hash keys last before none empty =
+    subst (λ keys. AreChained eq hash keys last before) (sym none)
+    (subst (λ last. AreChained eq hash [] last before) (sym empty)
     (record {
-      unique = subst (λ es. IsDistinct eq (keys_of es)) e unique;
-      apart = IsDistinct-from_apart nat_eq [] (λ i j d less within. absurd (omega arith));
-      within = All-nil (λ place. place < 0);
-      each = λ place within. absurd (omega arith);
-    })
-
-module _ {K : Type 0} {eq : K → K → Bool} (laws : IsEquivalence eq) (es : List (K × ℕ)) (o : IsPlacing eq es) where
-  -- a test that passes at a key finds its place
-  found : (test : K → Bool) → IsKeyTest eq test → (k : K) (p : ℕ) → key_of_place es p ≡ Some k → test k ≡ true → lookup test es ≡ Some p
-  found test is k p e passes =
-      let at = entry_at es p k e in
-      ap (λ t. lookup t es) (λ j x. is k x passes j) ∙ lookup_from_place laws es at.0 k p o.unique at.1
-
-  pub length-keys : length (keys_by_place es) ≡ length es
-  length-keys = length_along (key_of_place es) 0 (length es) (λ i _ less. o.each i (omega arith))
-
-  get-keys : (p : ℕ) → p < length es → slice_get (keys_by_place es) p ≡ key_of_place es p
-  get-keys p less =
-      let e : 0 + p ≡ p = omega arith in
-      get_along (key_of_place es) 0 (length es) (λ i _ h. o.each i (omega arith)) p less ∙ ap (key_of_place es) e
-
-  within : (test : K → Bool) (p : ℕ) → lookup test es ≡ Some p → p < length es
-  within test p e = subst (λ found. IfSome found (λ q. q < length es)) e (IfSome-lookup_from_All (λ q. q < length es) test es o.within)
-
-  key-here : (q : ℕ) (k : K) → slice_get (keys_by_place es) q ≡ Some k → key_of_place es q ≡ Some k
-  key-here q k e =
-      let less : q < length (keys_by_place es) = slice_get_within (keys_by_place es) q k e in
-      sym (get-keys q (omega (arith, length-keys))) ∙ e
-
-  fails : (test : K → Bool) → IsKeyTest eq test → lookup test es ≡ None → (q : ℕ) (k : K) → slice_get (keys_by_place es) q ≡ Some k → test k ≡ false
-  fails test is e q k at = false_from_ne_true (test k) (λ t. none-some q (sym e ∙ found test is k q (key-here q k at) t))
-
-  pub place-within : (i : ℕ) (k : K) (p : ℕ) → slice_get es i ≡ Some (k, p) → p < length es
-  place-within i k p e =
-      let at : get_or (values_of es) i 0 ≡ p = get_or_from_slice_get (values_of es) i p 0 (slice_get-map (λ e. e.1) es i ∙ ap (option_map (λ e. e.1)) e) in
-      subst (λ q. q < length es) at
-      (All-get_or (λ q. q < length es) (values_of es) i 0 (omega (arith, length-map es (λ e. e.1), slice_get_within es i (k, p) e)) o.within)
-
-  -- what a look-up finds is the place among the keys
-  pub position-found : (test : K → Bool) → IsKeyTest eq test → (r : Option ℕ) → lookup test es ≡ r → position test (keys_by_place es) ≡ r
-  position-found test is None e = position-nowhere test (keys_by_place es) (fails test is e)
-  position-found test is (Some p) e =
-      let at = place_from_lookup test es p e in
-      let less : p < length es = within test p e in
-      position-here test (keys_by_place es) p at.1 (get-keys p less ∙ at_entry es o.apart at.0 at.1 p at.2) at.3
-      (λ q y before there.
-      false_from_ne_true (test y)
-      (λ t. let same : q ≡ p = same_Some q p (sym (found test is y q (key-here q y there) t) ∙ e) in absurd (omega arith)))
-
-  -- where each entry's key stands at its place, the keys stand in the order of their places
-  pub in-order : (keys : List (Bor K)) → length keys ≡ length es
-      → ((i : ℕ) (k : K) (p : ℕ) (d : Bor K) → slice_get es i ≡ Some (k, p) → (get_or keys p d).now ≡ k) → map deref keys ≡ keys_by_place es
-  in-order keys long stand =
-      same_lists (map deref keys) (keys_by_place es) (length-map keys deref ∙ long ∙ sym length-keys)
-      (λ p d less.
-      let within : p < length es = omega (arith, length-map keys deref, long) in
-      let key = o.each p within in
-      let at = entry_at es p key.0 key.1 in
-      let any : Bor K = get_or keys p (elim_any keys (omega (arith, length-map keys deref))) in
-      get_or-map deref keys p any d (omega (arith, length-map keys deref)) ∙ stand at.0 key.0 p any at.1
-      ∙ sym (get_or_from_slice_get (keys_by_place es) p key.0 d (get-keys p within ∙ key.1)))
-
-  any-found : (test : K → Bool) (p : ℕ) → lookup test es ≡ Some p → list_any test (keys_by_place es) ≡ true
-  any-found test p e =
-      let at = place_from_lookup test es p e in
-      any_passes_from_place test (keys_by_place es) p at.1 (get-keys p (within test p e) ∙ at_entry es o.apart at.0 at.1 p at.2) at.3
-
-  pub any-place : (test : K → Bool) → IsKeyTest eq test → (r : Option ℕ) → lookup test es ≡ r → list_any test (keys_by_place es) ≡ is_some r
-  any-place test is None e = any-nowhere test (keys_by_place es) (fails test is e)
-  any-place test is (Some p) e = any-found test p e
-
-  -- a new key goes last
-  new-key : (k : K) (fs : List (K × ℕ)) → IsDistinct eq (keys_of fs) → IsPermutation ((k, length es) ∷ es) fs → IsPlacing eq fs × (keys_by_place fs ≡ keys_by_place es ++ k ∷ [])
-  new-key k fs unique moved =
-      let n = length es in
-      let more = (k, n) ∷ es in
-      let size : length fs ≡ suc n = length_permutation more fs moved in
-      let places : IsPermutation (values_of more) (values_of fs) = IsPermutation-map (λ e. e.1) more fs moved in
-      let new : AllByRecursion (λ p. nat_eq n p ≡ false) (values_of es) =
-      recursion_from_All (λ p. nat_eq n p ≡ false) (values_of es) (All-weaker (λ p. p < n) (λ p. nat_eq n p ≡ false) (λ p less. grind (arith, nat_tests)) (values_of es) o.within) in
-      let apart : IsDistinct nat_eq (values_of fs) =
-      IsDistinct-IsPermutation nat_eq (λ x y. nat_eq_equiv.symm x y) (values_of more) (values_of fs) places (IsDistinct-cons nat_eq n (values_of es) new o.apart) in
-      let below : All (λ p. p < length fs) (values_of more) =
-      All-cons (λ p. p < length fs) n (values_of es) (omega arith) (All-weaker (λ p. p < n) (λ p. p < length fs) (λ p less. omega arith) (values_of es) o.within) in
-      let last : key_of_place fs n ≡ Some k = at_moved more fs moved apart n k 0 refl in
-      let kept : (p : ℕ) → p < n → key_of_place fs p ≡ key_of_place es p =
-      λ p less.
-      let key = o.each p less in
-      let at = entry_at es p key.0 key.1 in
-      at_moved more fs moved apart p key.0 (suc at.0) at.1 ∙ sym key.1 in
-      let each : (p : ℕ) → p < length fs → (key : K) × (key_of_place fs p ≡ Some key) =
-      λ p less.
-      elim (cases_order p n) [
-        | inl same ↦ (k, ap (key_of_place fs) same ∙ last)
-        | inr (inl before) ↦ let key = o.each p before in (key.0, kept p before ∙ key.1)
-        | inr (inr after) ↦ absurd (omega arith)
-      ] in
-      let from : 0 + n ≡ n = omega arith in (
-        record { unique = unique; apart = apart; within = All-permutation (λ p. p < length fs) (values_of more) (values_of fs) places below; each = each },
-        ap (λ m. filter_map (key_of_place fs) (range_with_len 0 m)) size ∙ ap (filter_map (key_of_place fs)) (range_with_len-suc 0 n)
-            ∙ filter_map-append (key_of_place fs) (range_with_len 0 n) ((0 + n) ∷ [])
-            ∙ ap (λ o. filter_map (key_of_place fs) (range_with_len 0 n) ++ cons_option o []) (ap (key_of_place fs) from ∙ last)
-            ∙ ap (λ ks. ks ++ k ∷ []) (same_along (key_of_place fs) (key_of_place es) 0 n (λ i _ less. kept i (omega arith))),
-      )
-
-  -- the place that a key finds or gets, and the keys after it
-  pub placed : (k : K) (fs : List (K × ℕ)) (old : Option ℕ) (p : ℕ) → lookup (eq k) es ≡ old → p ≡ unwrap_or old (length es)
-      → MatchOption old (IsPermutation ((k, p) ∷ es) fs) (λ _. fs ≡ set_value (eq k) es p) → IsDistinct eq (keys_of fs)
-      → IsPlacing eq fs × (nat_eq p (length es) ≡ not (list_any (eq k) (keys_by_place es))) × (keys_by_place fs ≡ insert_key eq (keys_by_place es) k)
-  placed k fs None p e is moved unique =
-      let next : p ≡ length es = is in
-      let new = new-key k fs unique (subst (λ q. IsPermutation ((k, q) ∷ es) fs) next moved) in
-      let last : nat_eq p (length es) ≡ true = grind (arith, nat_tests) in
-      let none : list_any (eq k) (keys_by_place es) ≡ false = any-nowhere (eq k) (keys_by_place es) (fails (eq k) (λ x y. laws.congr k x y) e) in
-      (new.0, last ∙ sym (ap not none), new.1 ∙ sym (cond-false (list_any (eq k) (keys_by_place es)) (keys_by_place es) (keys_by_place es ++ k ∷ []) none))
-  placed k fs (Some q) p e is set unique =
-      let own : p ≡ q = is in
-      let look : lookup (eq k) es ≡ Some p = e ∙ ap (λ x. Some x) (sym own) in
-      let less : p < length es = within (eq k) p look in
-      let same : fs ≡ es = set ∙ set_same (eq k) es p look in
-      let old : nat_eq p (length es) ≡ false = grind (arith, nat_tests) in
-      let any : list_any (eq k) (keys_by_place es) ≡ true = any-found (eq k) p look in
-      (subst (IsPlacing eq) (sym same) o, old ∙ sym (ap not any), ap keys_by_place same ∙ sym (cond-true (list_any (eq k) (keys_by_place es)) (keys_by_place es) (keys_by_place es ++ k ∷ []) any))
+      distinct = IsDistinct-from_apart eq [] (λ i j d less within. absurd (omega arith));
+      linked = record {
+        long = omega arith;
+        nearest = λ p q k j at at-q less is. absurd (none-some k at);
+        same = λ p k at less. absurd (none-some k at);
+      };
+      lasts = record { each = λ q j at. absurd (none-some j at); within = λ h p e. absurd (none-some p e) };
+    }))

@@ -1,8 +1,10 @@
 -- Keys in the order in which they came, each with its place among them.
-use Rattle.std.specs.Prelude.{◌≡◌, ◌<◌, ℕ, Bool, nat_eq, List, [], ◌∷◌, ◌++◌, Option, Some, length, map, if◌then◌else◌, All, refl}
-use Rattle.std.specs.List.{IsDistinct, filter_map, list_any, range_with_len}
-use Rattle.std.specs.Map.{keys_of, values_of, lookup}
+use Rattle.std.specs.Prelude.{◌≡◌, ◌<◌, ◌≤◌, ℕ, Bool, true, nat_eq, nat_le, List, [], ◌∷◌, ◌++◌, Some, length, if◌then◌else◌, refl, slice_get, slice_index_or}
 use Rattle.std.specs.Coded.{Coded, code_by, coded×, coded_list, coded_ℕ}
+use Rattle.std.specs.Hash.{HashWrites}
+use Rattle.std.specs.Hash.FoldHasher.{finish, initial, write}
+use Rattle.std.specs.List.{fold, list_any, IsDistinct}
+use Rattle.std.specs.Map.{lookup}
 
 -- the keys that came, and how many more there is room for
 pub record KeysOf (K : Type 0) : Type 0 where
@@ -14,21 +16,43 @@ abbrev pub keys_of_code : {K : Type 0} → Coded K → Coded (KeysOf K)
 keys_of_code {K} code =
     code_by (List K × ℕ) (coded× (coded_list code) coded_ℕ) (λ of. (of.keys, of.room)) (λ p. record { keys = p.0; room = p.1 }) (λ _. refl)
 
--- the keys after one came: they stay where one of them is equal to it, and else it goes last
+-- the keys after one came: they stay if one of them is equal to it, and else it goes last
 abbrev pub insert_key : {K : Type 0} → (K → K → Bool) → List K → K → List K
 insert_key eq keys key = if list_any (eq key) keys then keys else keys ++ key ∷ []
 
--- the key with a place
-abbrev pub key_of_place : {K : Type 0} → List (K × ℕ) → ℕ → Option K
-key_of_place entries place = lookup (nat_eq place) (map (λ entry. (entry.1, entry.0)) entries)
+-- the least of three numbers
+abbrev pub least_room : ℕ → ℕ → ℕ → ℕ
+least_room a b c = if nat_le a b then (if nat_le a c then a else c) else (if nat_le b c then b else c)
 
--- the keys in the order of their places
-abbrev pub keys_by_place : {K : Type 0} → List (K × ℕ) → List K
-keys_by_place entries = filter_map (key_of_place entries) (range_with_len 0 (length entries))
+-- the hash of what a key writes
+abbrev pub hash_value : HashWrites → ℕ
+hash_value writes = finish (fold write initial writes)
 
--- no two keys are equal, and each place below the count is that of one key
-pub record IsPlacing {K : Type 0} (eq : K → K → Bool) (entries : List (K × ℕ)) : Type 0 where
-  pub unique : IsDistinct eq (keys_of entries)
-  pub apart : IsDistinct nat_eq (values_of entries)
-  pub within : All (λ place. place < length entries) (values_of entries)
-  pub each : (place : ℕ) → place < length entries → (key : K) × (key_of_place entries place ≡ Some key)
+-- the place before a place
+abbrev pub before_at : List ℕ → ℕ → ℕ
+before_at before place = slice_index_or before place 0
+
+-- each key leads to the nearest key before it that has the same hash
+pub record AreLinked {K : Type 0} (hash : K → ℕ) (keys : List K) (before : List ℕ) : Type 0 where
+  pub long : length keys ≤ length before
+  pub nearest : (p q : ℕ) (k j : K) → slice_get keys p ≡ Some k → slice_get keys q ≡ Some j → q < p → hash j ≡ hash k
+      → (before_at before p < p) × (q ≤ before_at before p)
+  pub same : (p : ℕ) (k : K) → slice_get keys p ≡ Some k → before_at before p < p → (j : K) × (slice_get keys (before_at before p) ≡ Some j) × (hash j ≡ hash k)
+
+-- a hash has the place of the last key that has it
+pub record HasLast {K : Type 0} (hash : K → ℕ) (keys : List K) (last : List (ℕ × ℕ)) : Type 0 where
+  pub each : (q : ℕ) (j : K) → slice_get keys q ≡ Some j → (p : ℕ) × (lookup (nat_eq (hash j)) last ≡ Some p) × (q ≤ p)
+  pub within : (h p : ℕ) → lookup (nat_eq h) last ≡ Some p → (k : K) × (slice_get keys p ≡ Some k) × (hash k ≡ h)
+
+-- no two keys are equal, and each is found from the last key that has its hash
+pub record AreChained {K : Type 0} (eq : K → K → Bool) (hash : K → ℕ) (keys : List K) (last : List (ℕ × ℕ)) (before : List ℕ) : Type 0 where
+  pub distinct : IsDistinct eq keys
+  pub linked : AreLinked hash keys before
+  pub lasts : HasLast hash keys last
+
+-- a key is at no place after one, at which a key has the same hash
+pub record IsFromPlace {K : Type 0} (eq : K → K → Bool) (hash : K → ℕ) (keys : List K) (before : List ℕ) (key : K) (place : ℕ) : Type 0 where
+  pub distinct : IsDistinct eq keys
+  pub linked : AreLinked hash keys before
+  pub here : (k : K) × (slice_get keys place ≡ Some k) × (hash k ≡ hash key)
+  pub later : (q : ℕ) (j : K) → slice_get keys q ≡ Some j → eq key j ≡ true → q ≤ place

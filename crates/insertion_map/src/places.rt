@@ -1,35 +1,67 @@
 //! The places of keys.
-ghost use Rattle.std.specs.Prelude.{◌≡◌, ◌≤◌, ◌<◌, ◌+◌, [], IfOk, IsOk, OnErr, OnOk, is_some, length, map, not, position, unwrap_or};
-ghost use Rattle.std.specs.Map.Iter.{deref};
-ghost use Rattle.std.specs.HashMap.{get, spare, IsUnchanged, IsUnique, PutsEntry};
+ghost use Rattle.std.specs.Prelude.{◌≡◌, ◌≤◌, ◌<◌, ◌+◌, ◌-◌, ◌++◌, ◌∷◌, [], false, IfOk, IsOk, OnErr, OnOk, is_some, length, not, position};
 ghost use Rattle.std.specs.List.{list_any};
-ghost use Rattle.std.specs.Cmp.Lexicographic.{pointwise};
-ghost use Rattle.insertion_map.specs.Places.{insert_key, keys_by_place, IsPlacing};
+ghost use Rattle.insertion_map.specs.Places.{hash_value, insert_key, IsFromPlace};
 
-use std::alloc::{AllocError, AllocFailed, Global};
+use std::alloc::{AllocError, Global};
 use std::collections::HashMap;
-use std::hash::Hash;
+use std::hash::{FoldHasher, Hash, Hasher};
 use std::marker::Model;
 
 /// Keys in the order in which they came, and the place of each.
 #[derive(Drop)]
 pub struct KeyPlaces<K: Eq + Hash> {
-    /// The place of each key.
-    places: HashMap<K, usize>,
+    keys: Vec<K>,
+    /// The place of the last key with a hash.
+    last: HashMap<u64, usize>,
+    /// For each key the place of the key before it that has the same hash; its own place if none has.
+    before: Vec<usize>,
 }
 
 impl<K: Eq + Hash> Model for KeyPlaces<K> {
-    ghost use Rattle.insertion_map.specs.Places.{KeysOf, keys_of_code, keys_by_place, IsPlacing};
+    ghost use Rattle.std.specs.Prelude.{◌-◌};
+    ghost use Rattle.std.specs.HashMap.{spare};
+    ghost use Rattle.std.specs.Vec.{vec_capacity, vec_len};
+    ghost use Rattle.insertion_map.specs.Places.{KeysOf, keys_of_code, hash_value, least_room, AreChained};
 
     ghost Value = { KeysOf K };
 
     ghost coded = { keys_of_code K.code };
 
-    ghost use Rattle.std.specs.HashMap.{spare};
+    ghost view = { λ k. record {
+      keys = k.keys.items;
+      room = least_room (vec_capacity k.keys - vec_len k.keys)
+          (vec_capacity k.before - vec_len k.keys) (spare k.last);
+    } };
 
-    ghost view = { λ k. record { keys = keys_by_place k.places.entries; room = spare k.places } };
+    ghost invariant = { λ k. AreChained K.eq (λ key. hash_value (K.hash_input key)) k.keys.items k.last.entries k.before.items };
+}
 
-    ghost invariant = { λ k. IsPlacing K.eq k.places.entries };
+/// Returns the hash of a key.
+fn hash_of<K: Hash>(key: &K) -> u64
+    ensures { result ≡ hash_value (K.hash_input key.now) }
+{
+    let mut hasher = FoldHasher::default();
+    key.hash(&mut hasher);
+    hasher.finish()
+}
+
+/// Returns the place of a key, which is not after `place`. The key at `place` has the same hash.
+fn place_from<K: Eq + Hash>(keys: &[K], before: &[usize], key: &K, place: usize) -> Option<usize>
+    requires within { place < length before.now }
+    requires from { IsFromPlace K.eq (λ key. hash_value (K.hash_input key)) keys.now before.now
+        key.now place }
+    ensures place { result ≡ position (K.eq key.now) keys.now }
+    ensures found { is_some result ≡ list_any (K.eq key.now) keys.now }
+{
+    if *key == keys[place] {
+        return Some(place);
+    }
+    let earlier = before[place];
+    if earlier < place {
+        return place_from(keys, before, key, earlier);
+    }
+    None
 }
 
 impl<K: Eq + Hash> KeyPlaces<K> {
@@ -38,7 +70,9 @@ impl<K: Eq + Hash> KeyPlaces<K> {
         ensures { result.keys ≡ [] }
     {
         KeyPlaces {
-            places: HashMap::new(alloc),
+            keys: Vec::new(alloc),
+            last: HashMap::new(alloc),
+            before: Vec::new(alloc),
         }
     }
 
@@ -47,9 +81,22 @@ impl<K: Eq + Hash> KeyPlaces<K> {
         ensures keys { IfOk result (λ made. made.keys ≡ []) }
         ensures room { IfOk result (λ made. keys ≤ made.room) }
     {
-        Ok(KeyPlaces {
-            places: HashMap::with_capacity(alloc, keys)?,
-        })
+        let last = HashMap::with_capacity(alloc, keys)?;
+        let before = Vec::with_capacity(alloc, keys)?;
+        let keys = Vec::with_capacity(alloc, keys)?;
+        Ok(KeyPlaces { keys, last, before })
+    }
+
+    /// Returns the place of a key, if it is among those with this hash.
+    fn place_of(&self, key: &K, hash: u64) -> Option<usize>
+        requires { hash ≡ hash_value (K.hash_input key.now) }
+        ensures place { result ≡ position (K.eq key.now) self.now.keys }
+        ensures found { is_some result ≡ list_any (K.eq key.now) self.now.keys }
+    {
+        match self.last.get(&hash) {
+            Some(last) => place_from(self.keys.as_slice(), self.before.as_slice(), key, *last),
+            None => None,
+        }
     }
 
     /// Puts a key after the others, if it is equal to none of them; whether it was put there.
@@ -62,30 +109,59 @@ impl<K: Eq + Hash> KeyPlaces<K> {
         ensures succeeds { 0 < self.old.room → IsOk result }
         ensures room { self.old.room ≤ self.new.room + 1 }
     {
-        let place = self.places.len();
-        let found = place_in(&mut self.places, key, place)?;
-        Ok(found == place)
+        let hash = hash_of(&key);
+        if self.place_of(&key, hash).is_some() {
+            return Ok(false);
+        }
+        self.push(key, hash)?;
+        Ok(true)
+    }
+
+    /// Puts a key with its hash after the others, which are not equal to it.
+    fn push(&mut self, key: K, hash: u64) -> Result<(), AllocError>
+    where
+        K: Drop,
+        requires hash { hash ≡ hash_value (K.hash_input key) }
+        requires new { list_any (K.eq key) self.old.keys ≡ false }
+        ensures keys { OnOk result (self.new.keys ≡ self.old.keys ++ key ∷ []) }
+        ensures err { OnErr result (self.new.keys ≡ self.old.keys) }
+        ensures succeeds { 0 < self.old.room → IsOk result }
+        ensures room { self.old.room ≤ self.new.room + 1 }
+    {
+        let place = self.keys.len();
+        let earlier = self.last.get(&hash).copied().unwrap_or(place);
+        self.before.truncate(place);
+        self.before.push(earlier)?;
+        self.keys.push(key)?;
+        match self.last.insert(hash, place) {
+            Ok(_) => Ok(()),
+            Err(_) => {
+                let _key = self.keys.pop();
+                Err(AllocError)
+            }
+        }
     }
 
     /// Returns how many keys there are.
     pub fn len(&self) -> usize
         ensures { result ≡ length self.now.keys }
     {
-        self.places.len()
+        self.keys.len()
     }
 
-    /// Returns the keys in the order in which they came.
-    pub fn in_order(&self, alloc: Global) -> Result<Vec<&K>, AllocError>
-        ensures { IfOk result (λ keys. map deref keys.items ≡ self.now.keys) }
+    /// Returns the keys in the order in which they came. It takes no memory.
+    pub fn into_keys(self) -> Vec<K>
+        ensures { result.items ≡ self.keys }
     {
-        ordered_keys(alloc, &self.places)
+        let KeyPlaces { keys, .. } = self;
+        keys
     }
 
     /// Returns true if a key is among them.
     pub fn contains(&self, key: &K) -> bool
         ensures { result ≡ list_any (K.eq key.now) self.now.keys }
     {
-        self.places.contains_key(key)
+        self.place(key).is_some()
     }
 
     /// Returns the place of a key.
@@ -93,61 +169,6 @@ impl<K: Eq + Hash> KeyPlaces<K> {
         ensures place { result ≡ position (K.eq key.now) self.now.keys }
         ensures found { is_some result ≡ list_any (K.eq key.now) self.now.keys }
     {
-        self.places.get(key).copied()
+        self.place_of(key, hash_of(key))
     }
-}
-
-impl<T: Eq + Hash> KeyPlaces<Vec<T>> {
-    /// Returns the place of a key that is a list.
-    pub fn place_of_list(&self, key: &[T]) -> Option<usize>
-        ensures place { result
-            ≡ position (λ list. pointwise T.eq key.now list.items) self.now.keys }
-        ensures found { is_some result
-            ≡ list_any (λ list. pointwise T.eq key.now list.items) self.now.keys }
-    {
-        self.places.get(key).copied()
-    }
-}
-
-/// Returns the place of a key among others; the next one, if it is equal to none of them.
-fn place_in<K: Eq + Hash + Drop>(
-    places: &mut HashMap<K, usize>,
-    key: K,
-    next: usize,
-) -> Result<usize, AllocFailed<K>>
-    ensures found { IfOk result (λ found. found ≡ unwrap_or (get K.eq places.old key) next) }
-    ensures entries { IfOk result (λ found.
-        PutsEntry K.eq places.old places.new key found (get K.eq places.old key)) }
-    ensures unique { OnOk result (IsUnique K.eq places.new) }
-    ensures err { OnErr result (IsUnchanged places.old places.new) }
-    ensures succeeds { 0 < spare places.old → IsOk result }
-    ensures room { spare places.old ≤ spare places.new + 1 }
-{
-    Ok(*places.entry(key)?.or_insert(next))
-}
-
-/// Returns the keys in the order of their places.
-fn ordered_keys<K: Eq + Hash>(
-    alloc: Global,
-    places: &HashMap<K, usize>,
-) -> Result<Vec<&K>, AllocError>
-    requires { IsPlacing K.eq places.now.entries }
-    ensures { IfOk result (λ keys. map deref keys.items ≡ keys_by_place places.now.entries) }
-{
-    let mut keys = all_keys(alloc, places)?;
-    for (key, place) in places {
-        keys[*place] = key;
-    }
-    Ok(keys)
-}
-
-/// Returns the keys in any order.
-fn all_keys<K: Eq + Hash>(alloc: Global, places: &HashMap<K, usize>) -> Result<Vec<&K>, AllocError>
-    ensures { IfOk result (λ keys. length keys.items ≡ length places.now.entries) }
-{
-    let mut keys = Vec::with_capacity(alloc, places.len())?;
-    for key in places.keys() {
-        keys.push(key)?;
-    }
-    Ok(keys)
 }

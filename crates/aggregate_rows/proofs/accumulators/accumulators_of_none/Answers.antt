@@ -13,4 +13,4 @@ loop-aggregate-preserved c =
     let more : take (i + 1) aggregates ≡ take i aggregates ++ a ∷ [] = take_more aggregates i Count c.loop-aggregate-test.true in
     subst (λ xs. AreAccumulators xs [] c.push.new.self.items) (sym more)
     (subst (λ ts. AreAccumulators (take i aggregates ++ a ∷ []) [] ts) (sym c.in_ok-push.ensures.items)
-    (all_zipped_more (λ a t. IsAccumulator a [] t) (take i aggregates) c.loop-aggregate.accumulators.items a c.none.result c.loop-aggregate.invariant c.none.ensures))
+    (all_zipped_more (λ a t. IsAccumulator a [] t) (take i aggregates) c.loop-aggregate.accumulators.items a c.in_ok-none.field-0 c.loop-aggregate.invariant c.in_ok-none.ensures))

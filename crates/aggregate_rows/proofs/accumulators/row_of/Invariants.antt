@@ -5,11 +5,7 @@ use Rattle.query_meaning.specs.Apply.{computed_value}
 use Rattle.aggregate_rows.specs.Tallies.{aggregates_at, AreAccumulators}
 use Rattle.aggregate_rows.proofs.accumulators.row_of.Given as goal
 
--- the values of the key so far
-abbrev pub invariant-loop-value : goal.invariant-loop-value
-invariant-loop-value l = map value_view l.row.items ≡ map value_view (take l.value-index l.key)
-
--- and what is computed so far
+-- what is computed so far
 abbrev pub invariant-loop-place : goal.invariant-loop-place
 invariant-loop-place l = (aggregates : List Aggregate) (rows : List (List CellValue)) → AreAccumulators aggregates rows l.accumulators
-    → map value_view l.row.items ≡ map value_view l.key ++ map (computed_value rows) (aggregates_at (take l.place-index l.shown) aggregates)
+    → map value_view l.row.items ≡ map value_view l.fn.key.items ++ map (computed_value rows) (aggregates_at (take l.place-index l.shown) aggregates)

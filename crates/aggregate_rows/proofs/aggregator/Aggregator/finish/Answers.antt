@@ -13,13 +13,13 @@ use Rattle.aggregate_rows.proofs.aggregator.Aggregator.finish.Goals.{in-None, in
 
 pub returns-clause-rows : goal.returns-clause-rows
 returns-clause-rows c =
-    IfOk-weaker c.rows.result (λ (made : ColumnsOf). MakesRows c.args.self.groups c.deref.result.now made.rows)
+    IfOk-weaker c.into_rows.result (λ (made : ColumnsOf). MakesRows c.args.self.groups c.deref.result.now made.rows)
     (λ (made : ColumnsOf). (places : Option (List ℕ)) (aggregates : List NamedAggregateOf) (rows : List (List CellValue)) → Gathers c.args.self places aggregates rows
     → made.rows ≡ gathered_rows places aggregates rows)
     (λ made is places aggregates rows g.
     (rw c.deref.ensures.value at is) places c.args.self.aggregates.items rows g.groups_are
     ∙ ap (λ plain. rows_gathered places plain rows) g.aggregates_are.are ∙ plain_rows places aggregates rows)
-    c.rows.ensures.rows
+    c.into_rows.ensures.rows
 
 -- as many columns as values of a group, and as names
 wide : (places : Option (List ℕ)) (aggregates : List NamedAggregateOf) → key_width places + length aggregates ≡ gathered_width places aggregates
@@ -33,11 +33,11 @@ returns-clause-width c =
       | in-None w ↦ w.width-is ∙ sym (ap (λ ps. key_width (optional_numbers ps)) w.in-None.is)
       | in-Some w ↦ omega (arith, w.width-is, w.in-Some.places.ok.0) ∙ sym (ap (λ ps. key_width (optional_numbers ps)) w.in-Some.is)
     ] in
-    IfOk-weaker c.rows.result (λ (made : ColumnsOf). made.kinds ≡ replicate (c.match-self.width + length c.deref.result.now) any)
+    IfOk-weaker c.into_rows.result (λ (made : ColumnsOf). made.kinds ≡ replicate (c.match-self.width + length c.deref.result.now) any)
     (λ (made : ColumnsOf). (places : Option (List ℕ)) (aggregates : List NamedAggregateOf) (rows : List (List CellValue)) → Gathers self places aggregates rows
     → length made.kinds ≡ gathered_width places aggregates)
     (λ made is places aggregates rows g.
     let shown : length self.shown.items ≡ length aggregates = sym (length-map self.shown.items _) ∙ ap length g.aggregates_are.are ∙ length-map aggregates (λ a. a.aggregate) in
     ap length is ∙ length-replicate (c.match-self.width + length c.deref.result.now) any
     ∙ rw (width, g.places_are, c.deref.ensures.value, shown) (wide places aggregates))
-    c.rows.ensures.kinds
+    c.into_rows.ensures.kinds

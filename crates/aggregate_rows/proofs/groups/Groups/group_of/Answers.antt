@@ -11,9 +11,9 @@ use Rattle.aggregate_rows.proofs.groups.Groups.group_of.Goals as goal
 pub returns-in-Some : goal.returns-in-Some
 returns-in-Some c =
     let old = c.args.self.now in
-    let values = map value_view c.args.key.now in
+    let values = map value_view c.args.key.now.items in
     let found : position (same_values values) (keys_held old) ≡ Some c.in-Some.group =
-    sym (position_key value_view _ c.values_compare_as_their_views.ensures.equal (λ k. k.items) c.args.key.now old.keys.keys) ∙ sym c.place_of_list.ensures.place ∙ c.in-Some.is in
+    sym (position_key value_view _ c.values_compare_as_their_views.ensures.equal (λ k. k.items) c.args.key.now.items old.keys.keys) ∙ sym c.place.ensures.place ∙ c.in-Some.is in
     record {
       group = found_place c.values_are_ordered.ensures.equal old values c.in-Some.group found;
       more = key_found c.args.aggregates.now old values c.in-Some.group found;
@@ -23,12 +23,12 @@ pub returns-in_ok-push-in-None : goal.returns-in_ok-push-in-None
 returns-in_ok-push-in-None c =
     let old = c.args.self.now in
     let keys = old.keys.keys in
-    let values = map value_view c.args.key.now in
+    let values = map value_view c.args.key.now.items in
     let key = c.in_ok-owned_key-in-None.field-0 in
     let equal = c.values_compare_as_their_views.ensures.equal in
-    let copied = c.in_ok-owned_key-in-None.ensures in
+    let copied = c.in_ok-owned_key-in-None.ensures ∙ ap (map value_view) c.deref.ensures.value in
     let lacks : list_any (same_values values) (keys_held old) ≡ false =
-    sym (any_key value_view _ equal (λ k. k.items) c.args.key.now keys) ∙ sym c.place_of_list.ensures.found ∙ ap is_some c.in-None.is in
+    sym (any_key value_view _ equal (λ k. k.items) c.args.key.now.items keys) ∙ sym c.place.ensures.found ∙ ap is_some c.in-None.is in
     let other = any_key value_view _ equal (λ k. k.items) key.items keys ∙ ap (λ v. list_any (same_values v) (keys_held old)) copied ∙ lacks in
     let put = c.in_ok-insert-in-None.ensures.keys ∙ ap (λ b. cond b keys (keys ++ key ∷ [])) other in
     let new = record old { keys = c.insert.new.self; accumulators = c.push.new.self } in

@@ -1,4 +1,4 @@
-use Rattle.std.proofs.Common.{◌≡◌, [], map, subst, ap, ◌∙◌}
+use Rattle.std.proofs.Common.{◌≡◌, [], map, subst}
 use Rattle.std.specs.Prelude.{IfOk, OnOk, slice_index_or}
 use Rattle.cell_types.specs.Value.{value_view}
 use Rattle.query_meaning.specs.Apply.{values_at}
@@ -8,7 +8,7 @@ use Rattle.aggregate_rows.proofs.groups.Groups.group_of_values.Goals as goal
 pub returns : goal.returns
 returns c =
     let values = values_at c.args.grouping.places.now (slice_index_or c.args.columns.now.rows c.args.number []) in
-    let key : map value_view c.as_slice.result.now ≡ values = ap (map value_view) c.as_slice.ensures.value ∙ c.in_ok-read_key.ensures in
+    let key : map value_view c.read_key.new.key.items ≡ values = c.in_ok-read_key.ensures in
     record {
       group = subst (λ k. IfOk c.group_of.result (IsGroupOf c.group_of.new.self k)) key c.group_of.ensures.group;
       more = subst (λ k. OnOk c.group_of.result (HasGroupMore c.args.grouping.aggregates.now c.args.self.now c.group_of.new.self k)) key c.group_of.ensures.more;

@@ -39,7 +39,7 @@ group_of_row-requires-clause-known c =
     let here : values_at places (get_or rows (get_or numbers i 0) []) ≡ have.values_of code = values-here places numbers rows codes have i inside ∙ ap have.values_of (sym code_is) in
     let small : code < length known = omega (arith, have.are.below i coded, code_is, c.loop-i.invariant.long) in
     let there : c.index_mut.result.now ≡ get_or known code None = get_or_read known code c.index_mut.result.now small c.index_mut.ensures.value None in
-    rw c.at.ensures (subst (λ o. IfSome o (IsGroupOf c.loop-i.self (values_at places (get_or rows (get_or numbers i 0) [])))) (sym there)
+    rw c.at-number.ensures (subst (λ o. IfSome o (IsGroupOf c.loop-i.self (values_at places (get_or rows (get_or numbers i 0) [])))) (sym there)
     (subst (λ vs. IfSome (get_or known code None) (IsGroupOf c.loop-i.self vs)) (sym here) (c.loop-i.invariant.known have code)))
 
 pub loop-i-init : goal.loop-i-init
@@ -69,8 +69,8 @@ loop-i-preserved c =
     let told = c.group_of_row.new.known in
     let inside : i < length numbers = omega arith in
     let next : numbered (take (i + 1) numbers) rows ≡ numbered (take i numbers) rows ++ row ∷ [] = map_more (λ n. get_or rows n []) numbers i 0 inside in
-    let is : IsGroupOf new (values_at places row) g = rw c.at.ensures at c.in_ok-group.ensures.group in
-    let has : HasGroupMore aggregates old new (values_at places row) = rw c.at.ensures at c.in_ok-group.ensures.more in
+    let is : IsGroupOf new (values_at places row) g = rw c.at-number.ensures at c.in_ok-group.ensures.group in
+    let has : HasGroupMore aggregates old new (values_at places row) = rw c.at-number.ensures at c.in_ok-group.ensures.more in
     record {
       long = length-set known code told ∙ c.loop-i.invariant.long;
       begun = λ before held.

@@ -1,4 +1,4 @@
-use Rattle.std.proofs.Common.{◌≡◌, ◌<◌, ◌++◌, ◌∷◌, [], get_or, length, map, take, refl, ap, ◌∙◌, arith}
+use Rattle.std.proofs.Common.{◌≡◌, ◌<◌, ◌++◌, ◌∷◌, [], get_or, length, map, take, refl, arith}
 use Rattle.std.specs.Prelude.{slice_index_or}
 use Rattle.std.proofs.lemmas.List.Elements.{All-from_recursion}
 use Rattle.cell_types.specs.Value.{value_view}
@@ -15,7 +15,7 @@ index_mut-requires c =
     let i = c.loop-i.i in
     let row = slice_index_or rows (get_or numbers i 0) [] in
     let mid = c.group_of.new.self in
-    let key : map value_view c.as_slice.result.now ≡ values_at c.args.grouping.places.now row = ap (map value_view) c.as_slice.ensures.value ∙ (rw c.at-number.ensures at c.in_ok-read_key.ensures) in
+    let key : map value_view c.read_key.new.key.items ≡ values_at c.args.grouping.places.now row = rw c.at-number.ensures at c.in_ok-read_key.ensures in
     let may = c.requires.joins in
     let some = may.rows ++ numbered (take i numbers) rows in
     omega (arith, inside c.values_are_ordered.ensures.equal c.args.grouping.places.now c.args.grouping.aggregates.now some row c.loop-i.self mid (c.loop-i.invariant may.rows may.has) c.in_ok-group.group _ key c.in_ok-group.ensures.group c.in_ok-group.ensures.more, mid.accumulators.ok.0)
@@ -34,7 +34,7 @@ join_each-requires-clause-joins c =
     let numbers = c.args.numbers.now in
     let i = c.loop-i.i in
     let row = slice_index_or rows (get_or numbers i 0) [] in
-    let key : map value_view c.as_slice.result.now ≡ values_at c.args.grouping.places.now row = ap (map value_view) c.as_slice.ensures.value ∙ (rw c.at-number.ensures at c.in_ok-read_key.ensures) in
+    let key : map value_view c.read_key.new.key.items ≡ values_at c.args.grouping.places.now row = rw c.at-number.ensures at c.in_ok-read_key.ensures in
     let may = c.requires.joins in
     let some = may.rows ++ numbered (take i numbers) rows in
     rw (c.one-row.ensures, c.at-number.ensures) (
@@ -51,7 +51,7 @@ loop-i-preserved c = λ before has.
     let numbers = c.args.numbers.now in
     let i = c.loop-i.i in
     let row = slice_index_or rows (get_or numbers i 0) [] in
-    let key : map value_view c.as_slice.result.now ≡ values_at places row = ap (map value_view) c.as_slice.ensures.value ∙ (rw c.at-number.ensures at c.in_ok-read_key.ensures) in
+    let key : map value_view c.read_key.new.key.items ≡ values_at places row = rw c.at-number.ensures at c.in_ok-read_key.ensures in
     let some = before ++ numbered (take i numbers) rows in
     row_joined c.values_are_ordered.ensures.equal places c.args.grouping.aggregates.now some row c.loop-i.self c.group_of.new.self (c.loop-i.invariant before has) c.in_ok-group.group _ key
     c.in_ok-group.ensures.group c.in_ok-group.ensures.more c.index_mut.result.now c.index_mut.ensures.value _ c.join_each.new.accumulators _

@@ -8,5 +8,5 @@ returns c = record {
   keys_are = rw (c.in_ok-insert.ensures.keys, c.none-groups.ensures.keys, c.new.ensures.items) refl;
   accumulators_are =
       subst (λ ts. AllZip (OfPart c.args.aggregates.now) ([] ∷ []) ts)
-      (sym (c.in_ok-push.ensures.items ∙ ap (λ ts. ts ++ c.in_ok-accumulators_of_none.field-0 ∷ []) c.none-groups.ensures.accumulators)) (c.in_ok-accumulators_of_none.ensures, tt);
+      (sym (c.in_ok-push.ensures.items ∙ ap (λ ts. ts ++ c.in_ok-accumulators.accumulators ∷ []) c.none-groups.ensures.accumulators)) (c.in_ok-accumulators.ensures, tt);
 }
