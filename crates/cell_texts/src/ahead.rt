@@ -1,17 +1,16 @@
-//! Cells that are read before they are needed. Where an answer has rows in another order than their table, each stands far from the one before it: so the cells
-//! of some rows are read one right after another, and memory brings them together.
-use row_columns::{Cell, Columns};
+//! Cells that are read before they are needed. If an answer has rows in another order than their table, each is far from the one before it: so the cells of some
+//! rows are read one right after another, and memory brings them together.
+ghost use Rattle.std.specs.Prelude.{◌<◌, length};
+ghost use Rattle.std.specs.List.{All};
 
-/// How many rows' cells are read together.
-const TOGETHER: usize = 8;
+use row_columns::{Cell, Columns};
 
 /// How many rows came one after another while their block was read, and are near.
 const NEAR: usize = 4096;
 
-/// Returns what was read of rows before any is needed, or `None` if none has to be read ahead: few rows are near, and so are rows that follow on one another.
-pub fn none_seen(columns: &Columns) -> Option<u8> {
-    let are_near = columns.len() <= NEAR || columns.block_rows(0, 1).is_some();
-    if are_near { None } else { Some(0) }
+/// Returns true if rows are near: few rows are, and so are rows that follow on one another.
+pub(crate) fn are_near(columns: &Columns) -> bool {
+    columns.len() <= NEAR || columns.block_rows(0, 1).is_some()
 }
 
 /// Returns a byte that a value has, or tells. None is asked for; to tell it the cell is read.
@@ -27,18 +26,15 @@ fn byte_of(cell: Cell<'_>) -> u8 {
     }
 }
 
-/// Reads the cells of rows from a number on, if such are read before they are needed, and the turn of these has come. What it has seen says nothing: it is kept,
-/// so that no cell is passed over.
-pub fn read_ahead(columns: &Columns, row: usize, seen: Option<u8>) -> Option<u8> {
-    let mut seen = seen?;
-    if row % TOGETHER != 0 {
-        return Some(seen);
-    }
-    let end = columns.len().min(row.saturating_add(TOGETHER));
+/// Reads the cells of the rows with these numbers. What it has seen says nothing: it is kept, so that no cell is passed over.
+pub(crate) fn read_ahead(columns: &Columns, numbers: &[usize], seen: u8) -> u8
+    requires { All (λ n. n < length columns.now.rows) numbers.now }
+{
+    let mut seen = seen;
     for col in 0..columns.width() {
-        for at in row..end {
-            seen = seen ^ byte_of(columns.row_ref(at).cell(col));
+        for number in numbers {
+            seen = seen ^ byte_of(columns.row_ref(*number).cell(col));
         }
     }
-    Some(seen)
+    seen
 }

@@ -6,7 +6,8 @@ mod ahead;
 mod put;
 mod row_sizes;
 mod sizes;
+mod turns;
 
-pub use ahead::{none_seen, read_ahead};
 pub use put::put_cell;
-pub use row_sizes::{Frame, put_sizes, row_room, row_size};
+pub use row_sizes::{Frame, put_sizes, row_room};
+pub use turns::RowTurns;

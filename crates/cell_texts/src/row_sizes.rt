@@ -30,21 +30,6 @@ impl Frame {
     }
 }
 
-/// Returns `start` and how many bytes the values of the row with a number take.
-pub fn row_size<const JSON: bool>(columns: &Columns, row: usize, start: usize) -> usize
-    requires { row < length columns.now.rows }
-    ensures { result ≡ told (start
-        + length (flat_map (printed_value JSON) (get_or columns.now.rows row []))) }
-{
-    columns.rows_are_wide();
-    let values = columns.row_ref(row);
-    let mut size = start;
-    for col in 0..columns.width() {
-        size = size.saturating_add(cell_size::<JSON>(values.cell(col)));
-    }
-    size
-}
-
 /// Returns a number of bytes that `start` and the values of the row with a number do not pass. No text is looked at.
 pub fn row_room<const JSON: bool>(columns: &Columns, row: usize, start: usize) -> usize
     requires { row < length columns.now.rows }

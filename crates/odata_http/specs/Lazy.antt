@@ -4,11 +4,14 @@ use Rattle.std.specs.declared.alloc.AllocError.{AllocError}
 use Rattle.table_store.specs.Catalog.{CatalogOf}
 use Rattle.query_exec.specs.declared.run.Step.{Step}
 use Rattle.query_exec.specs.declared.run.Step.TheVariants.{More, Done}
+use Rattle.query_exec.specs.declared.run_kept.RunKept.{RunKept}
+use Rattle.query_exec.specs.declared.run_kept.RunKept.TheVariants.{Nothing}
+use Rattle.query_exec.specs.RunKept.{RunKeeps}
 use Rattle.http_heads.specs.Head.{HeadOf}
 use Rattle.odata_http.specs.declared.exchange.Exchange.{Exchange}
 use Rattle.odata_http.specs.declared.lazy.LazyExchange.{LazyExchange}
 use Rattle.odata_http.specs.declared.work.Work.{Work}
-use Rattle.odata_http.specs.declared.work.Work.TheVariants.{Waits}
+use Rattle.odata_http.specs.declared.work.Work.TheVariants.{Read, Waits}
 use Rattle.odata_http.specs.Exchange.{Answers, HasFailed, HeadTakes}
 use Rattle.odata_http.specs.Reply.{IsReply}
 
@@ -48,6 +51,14 @@ pub data MayGoOnLazily (catalog : CatalogOf) (lazy : LazyExchange) : Type 0 wher
 -- what a call makes of one that was `left` calls before its reply
 abbrev pub GoesOnLazily : CatalogOf → HeadOf → ℕ → LazyExchange → Result Step AllocError → Type 0
 GoesOnLazily catalog head left lazy result = GoesUnlaid catalog head left lazy.exchange result
+
+-- what the run of a query that is under way keeps; without one it is nothing
+abbrev pub WorkKeeps : Work → RunKept → Type 0
+WorkKeeps (Read query_run) kept = RunKeeps query_run.run.value kept
+WorkKeeps work kept = kept ≡ Nothing
+
+abbrev pub KeepsLazily : LazyExchange → RunKept → Type 0
+KeepsLazily lazy kept = WorkKeeps lazy.exchange.work kept
 
 -- one that begins: all its calls are left
 pub record BeginsLazily (catalog : CatalogOf) (head : HeadOf) (lazy : LazyExchange) : Type 0 where

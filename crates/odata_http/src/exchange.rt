@@ -103,8 +103,7 @@ impl Exchange {
         Ok(())
     }
 
-    /// Reads one block of the table at most. It answers Done at the call of the length that a head has, when the reply is there, and after that
-    /// always; and if memory ran out, in this call or before, it says so.
+    /// Reads one block of the table at most. Answers Done at the last call that a head takes and after it, and an error from the call on in which memory ran out.
     pub fn advance(&mut self, alloc: Global, catalog: &Catalog) -> Result<Step, AllocError>
         requires { MayGoOn catalog.now self.old }
         ensures goes_on { (head : HeadOf) (left : ℕ) → Answers catalog.now head left self.old

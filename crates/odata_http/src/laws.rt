@@ -31,16 +31,14 @@ pub fn one_reading()
     odata_request::one_request();
 }
 
-/// Unless the connection closed, what follows a stream is answered as what follows its rest; if it closed, what follows is not answered. So
-/// the replies do not depend on how a stream is cut into pieces.
+/// Unless the connection closed, what follows a stream is answered as what follows its rest. So replies do not depend on how a stream is cut.
 pub fn joins()
     ensures { UnderTables Joins }
 {
     http_heads::cuts_join();
 }
 
-/// If nothing that follows a stream can put a head at the front of its rest, the replies are those that are certain and one to the rest, whether the
-/// stream ends there or goes on.
+/// If nothing that follows a stream can put a head at the front of its rest, the replies are those that are certain and one to the rest.
 pub fn hopeless_ends()
     ensures { UnderTables HopelessEnds }
 {

@@ -2,13 +2,13 @@
 ghost use Rattle.std.specs.Prelude.{◌≡◌, ◌≤◌, ℕ, List, IfOk, IsErr, Ok, OnErr, length};
 ghost use Rattle.query_exec.specs.declared.run.Step.TheVariants.{Done};
 ghost use Rattle.http_heads.specs.Head.{HeadOf};
-ghost use Rattle.odata_http.specs.Lazy.{AnswersLazily, BeginsLazily, GivesLazily, GoesOnLazily, HasLazilyFailed, IsLazilyDone, MayGoOnLazily};
+ghost use Rattle.odata_http.specs.Lazy.{AnswersLazily, BeginsLazily, GivesLazily, GoesOnLazily, HasLazilyFailed, IsLazilyDone, KeepsLazily, MayGoOnLazily};
 ghost use Rattle.odata_http.specs.Reply.{IsReply};
 
 use crate::exchange::Exchange;
 use crate::work::{Work, let_go};
 use http_heads::CheckedHead;
-use query_exec::Step;
+use query_exec::{RunKept, Step};
 use reply_text::Reply;
 use std::alloc::{AllocError, Global};
 use table_store::Catalog;
@@ -35,8 +35,7 @@ impl LazyExchange {
         })
     }
 
-    /// Reads one block of the table at most. It answers Done at the call of the length that a head has, when the reply is there, and after that
-    /// always; and if memory ran out, in this call or before, it says so.
+    /// Reads one block of the table at most. Answers Done at the last call that a head takes and after it, and an error from the call on in which memory ran out.
     pub fn advance(&mut self, alloc: Global, catalog: &Catalog) -> Result<Step, AllocError>
         requires { MayGoOnLazily catalog.now self.old }
         ensures goes_on { (head : HeadOf) (left : ℕ)
@@ -48,6 +47,16 @@ impl LazyExchange {
         ensures refused { OnErr result (HasLazilyFailed self.new) }
     {
         self.exchange.go_on(alloc, catalog)
+    }
+
+    /// Returns what the run of its query keeps, if one is under way.
+    pub fn kept(&self) -> RunKept
+        ensures { KeepsLazily self.now result }
+    {
+        match &self.exchange.work {
+            Work::Read(query_run) => query_run.run.kept(),
+            _ => RunKept::Nothing,
+        }
     }
 
     /// Returns the reply of an exchange that answered Done. It takes no memory, nor does a take from it.

@@ -25,7 +25,7 @@ pub use laws::{
     cuts_are_small, hopeless_ends, joins, one_length, one_reading, one_reply, statuses,
 };
 pub use lazy::LazyExchange;
-pub use query_exec::Step;
+pub use query_exec::{RunKept, Step};
 pub use reply::reply_to_rest;
 pub use reply_text::{Output, Reply};
 pub use runs::{RunFault, run};

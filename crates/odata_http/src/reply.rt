@@ -109,13 +109,8 @@ pub fn reply_to_rest(alloc: Global) -> Result<Vec<u8>, AllocError>
     ensures { IfOk result (λ reply. reply.items ≡ rest_reply) }
 {
     let body = error_body(alloc, Code::BadRequest)?;
-    let mut reply = lines_before(
-        alloc,
-        Code::BadRequest.status(),
-        Media::Json,
-        body.len(),
-        true,
-    )?;
+    let status = Code::BadRequest.status();
+    let mut reply = lines_before(alloc, status, Media::Json, body.len(), true)?;
     reply.extend_from_slice(&body)?;
     Ok(reply)
 }

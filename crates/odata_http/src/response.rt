@@ -1,5 +1,5 @@
 //! What requests are answered with.
-ghost use Rattle.std.specs.Prelude.{◌≡◌, ℕ, List, IfOk, IfSome, length};
+ghost use Rattle.std.specs.Prelude.{◌≡◌, ℕ, List, IfOk, length};
 ghost use Rattle.cell_types.specs.Value.{CellValue};
 ghost use Rattle.http.specs.StatusCode.{IsStatusCode};
 ghost use Rattle.query_plan.specs.Plan.{answer_of};
@@ -11,8 +11,10 @@ use crate::media::Media;
 use crate::reply::lines_before;
 use http_heads::Method;
 use odata_parse::Format;
-use query_exec::Rows;
-use reply_text::{BodyCursor, Code, Reply, RowSizes, error_body, number_body, service_body};
+use query_exec::{OrderedRows, Rows};
+use reply_text::{
+    BodyCursor, Code, Reply, RowSizes, csv_body, error_body, number_body, row_body, service_body,
+};
 use std::alloc::{AllocError, Global};
 use table_store::Catalog;
 
@@ -80,57 +82,52 @@ const SHORT_BYTES: usize = 65_536;
 /// Returns the body of rows in a format, of which some were counted. A short one is written in one pass, and its length is taken.
 fn rows_body(
     alloc: Global,
-    rows: Rows,
+    rows: OrderedRows,
     format: Format,
     counted: RowSizes,
 ) -> Result<BodyCursor, AllocError>
-    requires { HaveSizesIn format counted rows }
-    ensures { IfOk result (λ body. body.bytes ≡ rows_body rows format) }
+    requires counted { HaveSizesIn format counted rows.rows }
+    requires untaken { rows.taken ≡ 0 }
+    ensures { IfOk result (λ body. body.bytes ≡ rows_body rows.rows format) }
 {
-    let is_short = rows.len() <= SHORT_ROWS;
-    let most = if is_short { SHORT_BYTES } else { 0 };
-    let short = match format {
-        Format::Json => reply_text::short_json_body(alloc, &rows, most)?,
-        Format::Csv => reply_text::short_csv_body(alloc, &rows, most)?,
-    };
-    match (short, format) {
-        (Some(bytes), _) => Ok(BodyCursor::of_bytes(bytes)),
-        (None, Format::Json) => BodyCursor::json_counted(alloc, rows, counted),
-        (None, Format::Csv) => BodyCursor::csv_counted(rows, counted),
+    let mut rows = rows;
+    if rows.len() <= SHORT_ROWS {
+        let few = rows.into_rows(alloc)?;
+        let short = match format {
+            Format::Json => reply_text::short_json_body(alloc, &few, SHORT_BYTES)?,
+            Format::Csv => reply_text::short_csv_body(alloc, &few, SHORT_BYTES)?,
+        };
+        if let Some(bytes) = short {
+            return Ok(BodyCursor::of_bytes(bytes));
+        }
+        rows = OrderedRows::stored(few);
+    }
+    match format {
+        Format::Json => BodyCursor::json_counted(alloc, rows, counted),
+        Format::Csv => BodyCursor::csv_counted(rows, counted),
     }
 }
 
 /// Returns what the rows of a run answer, of which some were counted: if their number alone is asked for, it is their count.
 pub(crate) fn answer_response(
     alloc: Global,
-    rows: Rows,
+    rows: OrderedRows,
     counting: bool,
     format: Format,
     counted: RowSizes,
 ) -> Result<Response, AllocError>
-    requires { HaveSizesIn format counted rows }
+    requires counted { HaveSizesIn format counted rows.rows }
+    requires untaken { rows.taken ≡ 0 }
     ensures response { IfOk result (λ response. response_view response
-        ≡ meaning_response format (answer_of counting rows)) }
+        ≡ meaning_response format (answer_of counting rows.rows)) }
     ensures known { IfOk result (λ response. IsStatusCode response.status) }
 {
     if counting {
-        let body = number_body(alloc, rows.count().unwrap_or(0))?;
+        let body = number_body(alloc, rows.table().count().unwrap_or(0))?;
         return Ok(Response::ok(Media::Plain, BodyCursor::of_bytes(body)));
     }
     let body = rows_body(alloc, rows, format, counted)?;
     Ok(Response::ok(Media::of(format), body))
-}
-
-/// Returns the body of one row in a format.
-fn single_body(alloc: Global, rows: Rows, format: Format) -> Result<BodyCursor, AllocError>
-    requires { length rows.rows ≡ 1 }
-    ensures { IfOk result (λ body. (names : List (List ℕ)) (row : List CellValue)
-        → rows ≡ one_row names row → body.bytes ≡ row_body names row format) }
-{
-    match format {
-        Format::Json => BodyCursor::row(alloc, &rows),
-        Format::Csv => BodyCursor::csv(rows),
-    }
 }
 
 /// Returns one row in a format.
@@ -144,8 +141,11 @@ pub(crate) fn row_response(
         → rows ≡ one_row names row → response_view response ≡ row_response format names row) }
     ensures known { IfOk result (λ response. IsStatusCode response.status) }
 {
-    let body = single_body(alloc, rows, format)?;
-    Ok(Response::ok(Media::of(format), body))
+    let body = match format {
+        Format::Json => row_body(alloc, &rows)?,
+        Format::Csv => csv_body(alloc, &rows)?,
+    };
+    Ok(Response::ok(Media::of(format), BodyCursor::of_bytes(body)))
 }
 
 /// Returns the body, which is left out if the method is HEAD (RFC 9110, section 9.3.2).

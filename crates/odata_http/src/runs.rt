@@ -39,8 +39,7 @@ impl From<AnswerFault> for RunFault {
     }
 }
 
-/// Answers a stream: before each read the replies to all whole heads that were read are written, and at the end of the stream the
-/// reply to a rest. It ends after a reply that closes, makes at most `limit` reads, and holds one reply at a time.
+/// Answers a stream: writes the replies to all whole heads before each read, and that to a rest at the end. It makes at most `limit` reads.
 pub fn run<R: Source, W: Sink>(
     alloc: Global,
     catalog: &Catalog,

@@ -84,8 +84,7 @@ impl Work {
     {
         match self {
             Work::Waits(_) | Work::Replied(_) => Step::Done,
-            Work::Refuse(_) | Work::ListTables | Work::Find(_) => Step::More,
-            Work::Read(_) | Work::Failed => Step::More,
+            _ => Step::More,
         }
     }
 
@@ -95,8 +94,7 @@ impl Work {
     {
         match self {
             Work::Read(query_run) => query_run.most,
-            Work::Refuse(_) | Work::ListTables | Work::Find(_) => 1,
-            Work::Waits(_) | Work::Replied(_) | Work::Failed => 1,
+            _ => 1,
         }
     }
 

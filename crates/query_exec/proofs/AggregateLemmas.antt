@@ -1,5 +1,5 @@
 -- Aggregates of rows, or of groups of them.
-use Rattle.std.proofs.Common.{◌≡◌, ℕ, ◌<◌, ◌^◌, Option, Some, None, List, [], ◌∷◌, ◌++◌, append-nil, length, map, refl, sym, ap, ◌∙◌, subst}
+use Rattle.std.proofs.Common.{◌≡◌, ℕ, ◌<◌, ◌^◌, Option, Some, None, List, [], ◌∷◌, ◌++◌, length, map, refl, sym, ap, ◌∙◌, subst}
 use Rattle.std.specs.Prelude.{IfSome, option_and_then}
 use Rattle.std.specs.Borrow.{Bor}
 use Rattle.std.specs.List.{All}
@@ -26,7 +26,7 @@ use Rattle.query_exec.specs.declared.sink.Sink.TheVariants as sink
 use Rattle.query_exec.specs.Steps.{aggregate_node, without_count}
 use Rattle.query_exec.specs.Kept.{kept_names, kept_places, HasKept, HasSameColumns}
 use Rattle.query_exec.specs.Picked.{selected_rows}
-use Rattle.query_exec.specs.Sink.{HasGathered, MayPush, PushesOn, SinkGives}
+use Rattle.query_exec.specs.Sink.{MayPush, PushesOn, SinkGives}
 use Rattle.query_exec.proofs.CountLemmas.{selected_long, selected_numbered}
 use Rattle.query_exec.proofs.KeptLemmas.{as_many}
 use Rattle.row_columns.proofs.NumberedLaws.{all_numbered, all_within}
@@ -97,21 +97,6 @@ may_join places aggregates g before more names width gathers long few fit = reco
   gathers = gathers;
   within = places_fit (without_count names (before ++ more)) width long places aggregates fit;
   fits = aggregates_fit (without_count names (before ++ more)) width long places aggregates few fit;
-}
-
--- those of a block of which none was found are none
-selected_none : (places : Option (List ℕ)) → selected_rows places [] ≡ []
-selected_none None = refl
-selected_none (Some places) = refl
-
-pub none_pushed : (s : AggregateSink) (rows : List (List CellValue)) (found : Passed) → found.rows ≡ [] → PushesOn (sink.Aggregate s) (sink.Aggregate s) rows found
-none_pushed s rows found none = record {
-  nodes = refl;
-  columns = record { places = refl; names = refl; kinds = refl };
-  pushed = λ before passing are has.
-      let empty : passing ≡ [] = sym are.first ∙ ap (λ ns. numbered ns rows) none in
-      let more : [] ≡ selected_rows (kept_places s.kept) passing = sym (selected_none (kept_places s.kept)) ∙ ap (selected_rows (kept_places s.kept)) (sym empty) in
-      subst (HasGathered s) (sym (append-nil before) ∙ ap (λ rs. before ++ rs) more) has;
 }
 
 -- the rows of a block join them, and none is kept

@@ -7,17 +7,19 @@ use Rattle.table_store.specs.Table.{TableOf}
 use Rattle.block_filter.specs.Conditions.{rows_joined, ConditionsInTurn}
 use Rattle.query_plan.specs.Plan.{PlanOf, needed, node_view, nodes_result}
 use Rattle.query_plan.specs.Scan.{rows_of_blocks}
-use Rattle.result_rows.specs.Rows.{BeginWith, RowsOf}
+use Rattle.query_plan.specs.declared.plan.Slice as plan
+use Rattle.result_rows.specs.Rows.{BeginWith, OrderedOf, RowsOf}
 use Rattle.query_exec.specs.declared.front.FirstRows.{FirstRows}
 use Rattle.query_exec.specs.declared.kept.Kept.{Kept}
 use Rattle.query_exec.specs.declared.run.Run.{Run}
 use Rattle.query_exec.specs.declared.run.Stage.TheVariants.{Ended, Reading}
 use Rattle.query_exec.specs.declared.sink.Sink.{Sink}
 use Rattle.query_exec.specs.declared.sink.Sink.TheVariants.{Aggregate, Collect, Slice, Sorted, TopN}
+use Rattle.query_exec.specs.Answer.{before_order}
 use Rattle.query_exec.specs.Steps.{without_count}
-use Rattle.query_exec.specs.Kept.{kept_names, AreKeptRows, IsWide}
+use Rattle.query_exec.specs.Kept.{kept_names, AreKeptRows}
 use Rattle.query_exec.specs.Run.{handed_rows, passed_rows, ended, reads, AreFirstRows, LendsFor, StandsFor}
-use Rattle.query_exec.specs.Sink.{sink_kept, unordered_nodes, unordered_rows, HasPushed, LendsKept}
+use Rattle.query_exec.specs.Sink.{sink_kept, sink_nodes, sorted_items, sorted_nodes, HasPushed, LendsKept}
 use Rattle.query_exec.proofs.KeptLemmas.{as_many}
 use Rattle.query_exec.proofs.OrderLemmas.{unordered_is}
 use Rattle.query_exec.proofs.ReadLemmas.{handed_parts, passed_parts, read_rows}
@@ -35,7 +37,7 @@ lent_width : (sink : Sink) (front : FirstRows) → LendsKept sink (Some front) �
 lent_width (Collect kept) front lends wide = kept_width kept front lends wide
 lent_width (Slice sink) front lends wide = kept_width sink.kept front lends wide
 lent_width (TopN sink) front lends wide = absurd lends
-lent_width (Sorted sink) front lends wide = kept_width sink.kept front lends wide
+lent_width (Sorted sink) front lends wide = kept_width sink.kept front lends.2 wide
 lent_width (Aggregate sink) front lends wide = absurd lends
 
 -- of rows that stay as they are
@@ -51,7 +53,7 @@ all_first kept pushed more front rows has lends made =
 
 -- what its step makes of more rows, before it puts them in order, begins with that
 lent_first : (sink : Sink) (pushed more : List (List CellValue)) (front : FirstRows) (rows : RowsOf) → HasPushed sink pushed → LendsKept sink (Some front)
-    → nodes_result (unordered_nodes sink) (without_count (kept_names (sink_kept sink)) (pushed ++ more)) ≡ Some rows
+    → nodes_result (before_order (sink_nodes sink)) (without_count (kept_names (sink_kept sink)) (pushed ++ more)) ≡ Some rows
     → BeginWith rows (map string_bytes front.names.now) front.columns.now.rows
 lent_first (Collect kept) pushed more front rows has lends made = all_first kept pushed more front rows has lends made
 lent_first (Slice sink) pushed more front rows has lends made =
@@ -72,14 +74,17 @@ lent_first (Slice sink) pushed more front rows has lends made =
     rows_in None = []
     rows_in (Some r) = r.rows
 lent_first (TopN sink) pushed more front rows has lends made = absurd lends
-lent_first (Sorted sink) pushed more front rows has lends made = all_first sink.kept pushed more front rows has.rows_are lends made
+lent_first (Sorted sink) pushed more front rows has lends made =
+    all_first sink.kept pushed more front rows has.rows_are lends.2
+    (ap (λ (slice : Option plan.Slice). nodes_result (before_order (sorted_nodes (sorted_items sink) None slice)) (without_count (kept_names sink.kept) (pushed ++ more))) (sym lends.1)
+    ∙ ap (λ most. nodes_result (before_order (sorted_nodes (sorted_items sink) most sink.slice)) (without_count (kept_names sink.kept) (pushed ++ more))) (sym lends.0) ∙ made)
 lent_first (Aggregate sink) pushed more front rows has lends made = absurd lends
 
 -- ---- what a run lends
 
 some_unordered : (run : Run) (passed : Option (List (List CellValue))) (rows : RowsOf)
-    → option_and_then (λ rs. nodes_result (unordered_nodes run.sink) (without_count (kept_names (sink_kept run.sink)) rs)) passed ≡ Some rows
-    → (all : List (List CellValue)) × (passed ≡ Some all) × (nodes_result (unordered_nodes run.sink) (without_count (kept_names (sink_kept run.sink)) all) ≡ Some rows)
+    → option_and_then (λ rs. nodes_result (before_order (sink_nodes run.sink)) (without_count (kept_names (sink_kept run.sink)) rs)) passed ≡ Some rows
+    → (all : List (List CellValue)) × (passed ≡ Some all) × (nodes_result (before_order (sink_nodes run.sink)) (without_count (kept_names (sink_kept run.sink)) all) ≡ Some rows)
 some_unordered run None rows is = absurd (cc)
 some_unordered run (Some all) rows is = (all, refl, is)
 
@@ -104,7 +109,7 @@ front_is_first law run (Some front) works none lends plan table handed stands =
           (ap (λ passed. rows_joined passed (passed_rows run behind)) (sym some.1) ∙ sym (passed_parts law run before behind)
           ∙ ap (passed_rows run) (sym (handed_parts plan table handed)) ∙ made.1) in
           lent_first run.sink some.0 more.0 front rows some.2 lends
-          (ap (λ rs. nodes_result (unordered_nodes run.sink) (without_count (kept_names (sink_kept run.sink)) rs)) more.1 ∙ made.2);
+          (ap (λ rs. nodes_result (before_order (sink_nodes run.sink)) (without_count (kept_names (sink_kept run.sink)) rs)) more.1 ∙ made.2);
     }
 
 -- while blocks are read
@@ -114,17 +119,17 @@ reading_front law run front works none lends is plan table (reads handed stands)
 reading_front law run front works none lends is plan table (ended has) = let wrong = sym is ∙ has.gives in absurd (cc)
 
 -- once the run is done
-pub ended_front : (run : Run) (rows : RowsOf) (front : FirstRows) → map node_view run.steps.items ≡ [] → run.stage ≡ Ended rows
-    → map string_bytes front.names.now ≡ (unordered_rows rows run.unordered).names → front.columns.now.rows ≡ (unordered_rows rows run.unordered).rows
-    → (IfSome run.unordered IsWide → length front.columns.now.kinds ≡ length front.names.now) → (plan : PlanOf) (table : TableOf) → LendsFor run plan table
+pub ended_front : (run : Run) (given : OrderedOf) (front : FirstRows) → map node_view run.steps.items ≡ [] → run.stage ≡ Ended given
+    → map string_bytes front.names.now ≡ given.stored.names → front.columns.now.rows ≡ given.stored.rows
+    → length front.columns.now.kinds ≡ length front.names.now → (plan : PlanOf) (table : TableOf) → LendsFor run plan table
     → AreFirstRows plan table front
-ended_front run rows front none is names rows_are width plan table (reads handed stands) = let wrong = sym is ∙ stands.read.reads in absurd (cc)
-ended_front run rows front none is names rows_are width plan table (ended has) = record {
-  width = width has.unordered.wide;
+ended_front run given front none is names rows_are width plan table (reads handed stands) = let wrong = sym is ∙ stands.read.reads in absurd (cc)
+ended_front run given front none is names rows_are width plan table (ended has) = record {
+  width = width;
   first = λ all answer.
-      let stage : Ended rows ≡ Ended has.rows = sym is ∙ has.gives in
-      let given : has.rows ≡ rows = cc in
-      let lent : unordered_rows rows run.unordered ≡ all = let e = sym (ap (λ g. Some (unordered_rows g run.unordered)) given) ∙ sym (has.unordered.unordered_is none) ∙ answer in cc in
+      let stage : Ended given ≡ Ended has.given = sym is ∙ has.gives in
+      let same : has.given ≡ given = cc in
+      let lent : given.stored ≡ all = let e = sym (ap (λ (g : OrderedOf). Some g.stored) same) ∙ sym (has.unordered.unordered_is none) ∙ answer in cc in
       record {
         names_are = ap (λ (r : RowsOf). r.names) (sym lent) ∙ sym names;
         rest = [];

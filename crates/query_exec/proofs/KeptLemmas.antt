@@ -28,13 +28,6 @@ kept_of columns schema kept is within names kinds = record {
   kinds_are = kinds ∙ ap (λ cs. selected_kinds (kept_places kept) (kinds_of cs)) (sym is);
 }
 
-pub same_then : (old mid new : Kept) → HasSameColumns old mid → HasSameColumns mid new → HasSameColumns old new
-same_then old mid new first more = record {
-  places = more.places ∙ first.places;
-  names = more.names ∙ first.names;
-  kinds = more.kinds ∙ first.kinds;
-}
-
 pub still_kept : (old new : Kept) (schema : SchemaOf) → HasSameColumns old new → AreKeptOf old schema → AreKeptOf new schema
 still_kept old new schema same are =
     let picked : kept_places old ≡ kept_places new = ap optional_numbers (sym same.places) in

@@ -16,4 +16,5 @@ pub mod ReadLemmas
 pub mod OrderLemmas
 pub mod RunLemmas
 pub mod FrontLemmas
+pub mod RunKeptLemmas
 pub mod EveryLemmas

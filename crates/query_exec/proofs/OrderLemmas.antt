@@ -1,71 +1,33 @@
--- An order at the end of the steps, and the rows before it.
-use Rattle.std.proofs.Common.{◌≡◌, ◌<◌, ℕ, suc, Bool, true, false, Option, Some, None, List, [], ◌∷◌, ◌++◌, cond, length, map, get_or, refl, sym, ap, ◌∙◌, subst, arith, append_assoc, append-nil}
+-- An order at the end of the steps, and the rows as they stood before it.
+use Rattle.std.proofs.Common.{◌≡◌, ℕ, Bool, true, false, Option, Some, None, List, [], ◌∷◌, ◌++◌, cond, map, refl, sym, ap, ◌∙◌, subst, append-nil}
 use Rattle.std.specs.Prelude.{option_and_then, option_map}
-use Rattle.std.specs.List.{All, AllByRecursion, list_any}
-use Rattle.std.proofs.lemmas.List.{get_or_append_left, get_or_push, length-append}
+use Rattle.std.specs.List.{list_any}
 use Rattle.std.proofs.lemmas.List.Sorted.{IsPermutation-refl}
-use Rattle.cell_types.specs.Value.{CellValue, null}
+use Rattle.cell_types.specs.Value.{CellValue}
 use Rattle.typed_trees.specs.TypedTree.{TruthExprOf}
-use Rattle.odata_query.specs.Aggregate.{NamedAggregateOf}
 use Rattle.query_meaning.specs.Laws.{RowsAreInOrder}
 use Rattle.query_meaning.specs.Order.{Item, order_faults, rows_cmp, sorted}
 use Rattle.query_plan.specs.Plan.{NodeOf, PlanOf, aggregating, choosing, filtering, grouping, node_result, node_view, nodes_result, projecting, select_nodes, slicing, sorting, table_result}
-use Rattle.row_columns.specs.Picked.{numbered, values_at}
-use Rattle.row_selection.specs.Numbers.{numbers_from}
 use Rattle.block_filter.specs.Conditions.{passing_all}
-use Rattle.result_rows.specs.Rows.{AreReordered, RowsOf}
+use Rattle.result_rows.specs.Rows.{AreReordered, OrderedOf, RowsOf}
 use Rattle.table_store.specs.Table.{TableOf}
-use Rattle.query_exec.specs.declared.kept.Kept.{Kept}
 use Rattle.query_exec.specs.declared.run.Run.{Run}
-use Rattle.query_exec.specs.declared.sink.Sink.{Sink}
-use Rattle.query_exec.specs.declared.sink.Sink.TheVariants.{Aggregate, Collect, Slice, Sorted, TopN}
 use Rattle.query_exec.specs.Answer.{before_order, unless_order, unordered_answer}
 use Rattle.query_exec.specs.Conditions.{condition_nodes}
 use Rattle.query_exec.specs.Kept.{kept_names}
 use Rattle.query_exec.specs.Picked.{selected_rows}
 use Rattle.query_exec.specs.Run.{conditions_of, passed_answer, passed_rows, places_of, steps_of, HasPassed, HasTakenBlocks, IsUnordered, KeepsUnordered}
-use Rattle.query_exec.specs.Sink.{sink_kept, sink_nodes, unordered_nodes, unordered_rows, SinkEnds}
-use Rattle.query_exec.specs.Steps.{aggregate_node, without_count}
+use Rattle.query_exec.specs.Sink.{sink_kept, sink_nodes, SinkEnds}
+use Rattle.query_exec.specs.Steps.{without_count}
 use Rattle.query_exec.proofs.ConditionLemmas.{parts_give}
 use Rattle.query_exec.proofs.ReadLemmas.{no_steps, read_rows}
 
--- ---- all of a list by their numbers
-
-module _ {X : Type 0} where
-  all_from : (xs ys : List X) (d : X) → map (λ n. get_or (xs ++ ys) n d) (numbers_from (length xs) (length ys)) ≡ ys
-  all_from xs [] d = refl
-  all_from xs (y ∷ ys) d =
-      let longer : List X = xs ++ y ∷ [] in
-      let same : xs ++ y ∷ ys ≡ longer ++ ys = sym (append_assoc xs (y ∷ []) ys) in
-      let size : length longer ≡ suc (length xs) = omega (arith, length-append xs (y ∷ [])) in
-      let at : get_or (xs ++ y ∷ ys) (length xs) d ≡ y =
-      ap (λ l. get_or l (length xs) d) same ∙ get_or_append_left longer ys d (length xs) (omega (arith, size)) ∙ get_or_push xs y d (length xs) refl in
-      ap (λ x. x ∷ map (λ n. get_or (xs ++ y ∷ ys) n d) (numbers_from (suc (length xs)) (length ys))) at
-      ∙ ap (λ l. y ∷ map (λ n. get_or l n d) (numbers_from (suc (length xs)) (length ys))) same
-      ∙ ap (λ k. y ∷ map (λ n. get_or (longer ++ ys) n d) (numbers_from k (length ys))) (sym size)
-      ∙ ap (λ zs. y ∷ zs) (all_from longer ys d)
-
-  pub all_at : (xs : List X) (d : X) → map (λ n. get_or xs n d) (numbers_from 0 (length xs)) ≡ xs
-  all_at xs d = let none : List X = [] in all_from none xs d
-
-pub all_columns : (width : ℕ) (rows : List (List CellValue)) → AllByRecursion (λ (row : List CellValue). length row ≡ width) rows → map (values_at (numbers_from 0 width)) rows ≡ rows
-all_columns width [] wide = refl
-all_columns width (row ∷ rows) wide =
-    let whole : values_at (numbers_from 0 width) row ≡ row = ap (λ n. values_at (numbers_from 0 n) row) (sym wide.0) ∙ all_at row null in
-    ap (λ r. r ∷ map (values_at (numbers_from 0 width)) rows) whole ∙ ap (λ rs. row ∷ rs) (all_columns width rows wide.1)
-
-pub numbered_wide : (width : ℕ) (numbers : List ℕ) (rows : List (List CellValue)) → All (λ (row : List CellValue). length row ≡ width) rows → All (λ n. n < length rows) numbers
-    → AllByRecursion (λ (row : List CellValue). length row ≡ width) (numbered numbers rows)
-numbered_wide width [] rows wide within = tt
-numbered_wide width (n ∷ numbers) rows wide within =
-    (wide n [] (within 0 n (omega arith)), numbered_wide width numbers rows wide (λ k d h. within (suc k) d (omega (arith, h))))
-
 -- ---- steps without an order at their end
 
-last_kept : (nodes : List NodeOf) (last : NodeOf) → before_order (nodes ++ last ∷ []) ≡ nodes ++ unless_order last
-last_kept [] last = refl
-last_kept (node ∷ []) last = refl
-last_kept (node ∷ next ∷ nodes) last = ap (λ l. node ∷ l) (last_kept (next ∷ nodes) last)
+last_kept : (nodes : List NodeOf) (last : NodeOf) (more : List NodeOf) → before_order (nodes ++ last ∷ more) ≡ nodes ++ before_order (last ∷ more)
+last_kept [] last more = refl
+last_kept (node ∷ []) last more = refl
+last_kept (node ∷ next ∷ nodes) last more = ap (λ l. node ∷ l) (last_kept (next ∷ nodes) last more)
 
 conditions_stay : (es : List TruthExprOf) → before_order (condition_nodes es) ≡ condition_nodes es
 conditions_stay [] = refl
@@ -74,38 +36,29 @@ conditions_stay (e ∷ f ∷ es) = ap (λ l. filtering e ∷ l) (conditions_stay
 
 selected_stay : (es : List TruthExprOf) (picked : Option (List ℕ)) → before_order (condition_nodes es ++ select_nodes picked) ≡ condition_nodes es ++ select_nodes picked
 selected_stay es None = ap before_order (append-nil (condition_nodes es)) ∙ conditions_stay es ∙ sym (append-nil (condition_nodes es))
-selected_stay es (Some places) = last_kept (condition_nodes es) (projecting places)
+selected_stay es (Some places) = last_kept (condition_nodes es) (projecting places) []
 
-aggregates_stay : (places : Option (List ℕ)) (aggregates : List NamedAggregateOf) → unless_order (aggregate_node places aggregates) ≡ aggregate_node places aggregates ∷ []
-aggregates_stay None aggregates = refl
-aggregates_stay (Some places) aggregates = refl
-
-before_sink : (es : List TruthExprOf) (picked : Option (List ℕ)) (sink : Sink)
-    → before_order (condition_nodes es ++ select_nodes picked ++ sink_nodes sink) ≡ condition_nodes es ++ select_nodes picked ++ unordered_nodes sink
-before_sink es picked (Collect kept) =
+before_sink : (es : List TruthExprOf) (picked : Option (List ℕ)) (nodes : List NodeOf)
+    → before_order (condition_nodes es ++ select_nodes picked ++ nodes) ≡ condition_nodes es ++ select_nodes picked ++ before_order nodes
+before_sink es picked [] =
     let front = condition_nodes es ++ select_nodes picked in
     ap before_order (append-nil front) ∙ selected_stay es picked ∙ sym (append-nil front)
-before_sink es picked (Slice sink) = last_kept (condition_nodes es ++ select_nodes picked) _
-before_sink es picked (TopN sink) = last_kept (condition_nodes es ++ select_nodes picked) _
-before_sink es picked (Sorted sink) = last_kept (condition_nodes es ++ select_nodes picked) _
-before_sink es picked (Aggregate sink) =
-    let front = condition_nodes es ++ select_nodes picked in
-    last_kept front _ ∙ ap (λ l. front ++ l) (aggregates_stay _ _)
+before_sink es picked (node ∷ nodes) = last_kept (condition_nodes es ++ select_nodes picked) node nodes
 
 -- the answer before an order is what the sink makes of the rows that passed before it puts them in order
 pub unordered_is : (run : Run) (plan : PlanOf) (table : TableOf) (blocks : ℕ) → HasTakenBlocks run plan table blocks → map node_view run.steps.items ≡ []
     → unordered_answer plan table
-    ≡ option_and_then (λ rows. nodes_result (unordered_nodes run.sink) (without_count (kept_names (sink_kept run.sink)) rows)) (passed_rows run (read_rows plan table))
+    ≡ option_and_then (λ rows. nodes_result (before_order (sink_nodes run.sink)) (without_count (kept_names (sink_kept run.sink)) rows)) (passed_rows run (read_rows plan table))
 unordered_is run plan table blocks has none =
     let es = conditions_of run in
     let picked = places_of run in
     let all = read_rows plan table in
     let r = table_result table.schema all in
-    let nodes = unordered_nodes run.sink in
+    let nodes = before_order (sink_nodes run.sink) in
     let made : List (List ℕ) → List (List CellValue) → Option RowsOf = λ names rows. nodes_result nodes (without_count names rows) in
     ap (λ ns. nodes_result (before_order ns) r) (sym has.plan_is)
     ∙ ap (λ steps. nodes_result (before_order (condition_nodes es ++ select_nodes picked ++ steps)) r) (no_steps run none)
-    ∙ ap (λ ns. nodes_result ns r) (before_sink es picked run.sink)
+    ∙ ap (λ ns. nodes_result ns r) (before_sink es picked (sink_nodes run.sink))
     ∙ parts_give es picked nodes r all
     ∙ ap (λ names. option_and_then (made names) (option_map (selected_rows picked) (passing_all es all))) (sym has.columns.names_are)
 
@@ -117,25 +70,28 @@ some_made run None rows is = absurd (cc)
 some_made run (Some all) rows is = (all, refl, is)
 
 -- where no steps are left, what the sink made is the answer
-pub made_unordered : (old : Run) (sunk made : RowsOf) (unordered : Option Kept) → SinkEnds old.sink sunk unordered → nodes_result (map node_view old.steps.items) sunk ≡ Some made
-    → map node_view old.steps.items ≡ [] → (passed : List (List CellValue)) → HasPassed old (Some passed)
-    → nodes_result (unordered_nodes old.sink) (without_count (kept_names (sink_kept old.sink)) passed) ≡ Some (unordered_rows made unordered)
-made_unordered old sunk made unordered ends makes none passed has =
-    let one : nodes_result [] sunk ≡ Some made = ap (λ ns. nodes_result ns sunk) (sym none) ∙ makes in
-    let same : sunk ≡ made = cc in
-    ends.unordered_is passed has.pushed ∙ ap (λ given. Some (unordered_rows given unordered)) same
+pub made_unordered : (old new : Run) (sunk : OrderedOf) → SinkEnds old.sink sunk → new.steps ≡ old.steps → KeepsUnordered old new sunk
+made_unordered old new sunk ends same = record {
+  steps = same;
+  untaken = ends.untaken;
+  unordered_is = λ none passed has. ends.stored_is passed has.pushed;
+}
 
-pub ended_unordered : (run new : Run) (plan : PlanOf) (table : TableOf) (blocks : ℕ) (rows : RowsOf) → HasTakenBlocks run plan table blocks
-    → HasPassed run (passed_rows run (read_rows plan table)) → passed_answer run (passed_rows run (read_rows plan table)) ≡ Some rows → KeepsUnordered run new rows
-    → IsUnordered new plan table rows
-ended_unordered run new plan table blocks rows has passed answer keeps =
-    let some = some_made run (passed_rows run (read_rows plan table)) rows answer in
+-- and where some are left, nothing is said
+pub made_of_steps : (old new : Run) (made : OrderedOf) → new.steps ≡ old.steps → made.taken ≡ 0 → (map node_view old.steps.items ≡ [] → ⊥) → KeepsUnordered old new made
+made_of_steps old new made same untaken some = record { steps = same; untaken = untaken; unordered_is = λ none passed has. absurd (some none) }
+
+pub ended_unordered : (run new : Run) (plan : PlanOf) (table : TableOf) (blocks : ℕ) (given : OrderedOf) → HasTakenBlocks run plan table blocks
+    → HasPassed run (passed_rows run (read_rows plan table)) → passed_answer run (passed_rows run (read_rows plan table)) ≡ Some given.rows → KeepsUnordered run new given
+    → IsUnordered new plan table given
+ended_unordered run new plan table blocks given has passed answer keeps =
+    let some = some_made run (passed_rows run (read_rows plan table)) given.rows answer in
     record {
-      wide = keeps.wide;
+      untaken = keeps.untaken;
       unordered_is = λ none.
           let before : map node_view run.steps.items ≡ [] = ap (λ (s : _). map node_view s.items) (sym keeps.steps) ∙ none in
           unordered_is run plan table blocks has before
-          ∙ ap (option_and_then (λ rs. nodes_result (unordered_nodes run.sink) (without_count (kept_names (sink_kept run.sink)) rs))) some.1
+          ∙ ap (option_and_then (λ rs. nodes_result (before_order (sink_nodes run.sink)) (without_count (kept_names (sink_kept run.sink)) rs))) some.1
           ∙ keeps.unordered_is before some.0 (subst (HasPassed run) some.1 passed);
     }
 
@@ -152,7 +108,7 @@ as_it_is (Some mid) rows is = is
 itself : (made : Option RowsOf) (rows : RowsOf) → made ≡ Some rows → (before : RowsOf) × (made ≡ Some before) × AreReordered before rows
 itself made rows is = (rows, is, record { names = refl; moved = IsPermutation-refl rows.rows })
 
-one_order : RowsAreInOrder → (items : List Item) (r rows : RowsOf) → node_result (sorting items) r ≡ Some rows → AreReordered r rows
+pub one_order : RowsAreInOrder → (items : List Item) (r rows : RowsOf) → node_result (sorting items) r ≡ Some rows → AreReordered r rows
 one_order law items r rows is = by_faults (list_any (order_faults items) r.rows) refl is
   where
     by_faults : (b : Bool) → list_any (order_faults items) r.rows ≡ b

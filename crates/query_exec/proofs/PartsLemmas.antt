@@ -2,7 +2,7 @@
 use Rattle.std.proofs.Common.{◌≡◌, ℕ, true, false, Option, Some, None, List, [], ◌∷◌, ◌++◌, eqb, length, map, refl, subst, sym, ap, ◌∙◌, append_assoc, append-nil}
 use Rattle.std.specs.Prelude.{◌==◌, Vec, is_none, is_some}
 use Rattle.std.proofs.Math.Dec.{eqb-suc-zero}
-use Rattle.std.proofs.lemmas.List.{map-append, map_push}
+use Rattle.std.proofs.lemmas.List.{map_push}
 use Rattle.typed_trees.specs.TypedTree.{TruthExprOf}
 use Rattle.odata_query.specs.Query.{optional_numbers}
 use Rattle.query_plan.specs.declared.plan.Node.{Node}
@@ -14,9 +14,6 @@ pub record ArePartsOf (nodes : List NodeOf) (es : List TruthExprOf) (picked : Op
   pub nodes_are : nodes ≡ condition_nodes es ++ select_nodes picked ++ steps
   pub no_more : leading (select_nodes picked ++ steps) ≡ []
 
-pub no_parts : ArePartsOf [] [] None []
-no_parts = record { nodes_are = refl; no_more = refl }
-
 leading_behind : (es : List TruthExprOf) (ns : List NodeOf) → leading (condition_nodes es ++ ns) ≡ es ++ leading ns
 leading_behind [] ns = refl
 leading_behind (e ∷ es) ns = ap (λ fs. e ∷ fs) (leading_behind es ns)
@@ -26,22 +23,6 @@ pub leading_are : (nodes : List NodeOf) (es : List TruthExprOf) (picked : Option
 leading_are nodes es picked steps parts =
     ap leading (parts.nodes_are ∙ append_assoc (condition_nodes es) (select_nodes picked) steps)
     ∙ leading_behind es (select_nodes picked ++ steps) ∙ ap (λ fs. es ++ fs) parts.no_more ∙ append-nil es
-
-pub one_condition : (nodes : List NodeOf) (es : List TruthExprOf) (e : TruthExprOf) → ArePartsOf nodes es None [] → ArePartsOf (nodes ++ filtering e ∷ []) (es ++ e ∷ []) None []
-one_condition nodes es e parts = record {
-  nodes_are =
-      ap (λ ns. ns ++ filtering e ∷ []) (parts.nodes_are ∙ append-nil (condition_nodes es ++ []) ∙ append-nil (condition_nodes es))
-      ∙ sym (map-append filtering es (e ∷ [])) ∙ sym (append-nil (condition_nodes (es ++ e ∷ []))) ∙ sym (append-nil (condition_nodes (es ++ e ∷ []) ++ []));
-  no_more = refl;
-}
-
-pub one_pick : (nodes : List NodeOf) (es : List TruthExprOf) (places : List ℕ) → ArePartsOf nodes es None [] → ArePartsOf (nodes ++ projecting places ∷ []) es (Some places) []
-one_pick nodes es places parts = record {
-  nodes_are =
-      ap (λ ns. ns ++ projecting places ∷ []) (parts.nodes_are ∙ append-nil (condition_nodes es ++ []) ∙ append-nil (condition_nodes es))
-      ∙ sym (append-nil (condition_nodes es ++ projecting places ∷ []));
-  no_more = refl;
-}
 
 -- the first of the steps is no condition
 still_none : (picked : Option (List ℕ)) (steps : List NodeOf) (n : NodeOf) → leading (select_nodes picked ++ steps) ≡ [] → leading (n ∷ []) ≡ []

@@ -18,7 +18,7 @@ use Rattle.query_plan.specs.Fitting.{NodesFit}
 use Rattle.odata_types.specs.Laws.{TablesAreInputs}
 use Rattle.query_plan.specs.Laws.{NodesInTurn, ScansReadTableRows}
 use Rattle.query_plan.specs.Plan.{PlanOf, needed, node_view, nodes_result}
-use Rattle.result_rows.specs.Rows.{RowsOf}
+use Rattle.result_rows.specs.Rows.{OrderedOf, RowsOf}
 use Rattle.query_exec.specs.declared.fault.ExecFault.{ExecFault}
 use Rattle.query_exec.specs.declared.fault.ExecFault.TheVariants.{DivisionByZero, NoMemory, Failed}
 use Rattle.query_exec.specs.declared.run.Run.{Run}
@@ -63,7 +63,7 @@ some_next None is = absurd (cc)
 some_next (Some number) is = (number, refl)
 
 -- of `handed` calls before
-pub answers : (run new : Run) (plan : PlanOf) (table : TableOf) (handed blocks : ℕ) (result : Result (Option RowsOf) ExecFault) → HasTakenBlocks run plan table blocks
+pub answers : (run new : Run) (plan : PlanOf) (table : TableOf) (handed blocks : ℕ) (result : Result (Option OrderedOf) ExecFault) → HasTakenBlocks run plan table blocks
     → ((number : ℕ) → next_block plan table blocks ≡ Some number → blocks ≡ handed + 1) → (next_block plan table blocks ≡ None → handed + 1 ≡ run_length plan table)
     → RunGoesOn run new result → StepsTo plan table handed new result
 answers run new plan table handed blocks (Ok None) has more last goes =
@@ -72,11 +72,11 @@ answers run new plan table handed blocks (Ok None) has more last goes =
     let inside = slice_get_within (needed plan table.rows) blocks next.0 next.1 in
     let within : handed + 1 < run_length plan table = omega (arith, inside, one, le-max_right 1 (length (needed plan table.rows))) in
     (within, record { read = subst (λ (r : Run). HasTakenBlocks r plan table (handed + 1)) (sym goes.1) (subst (HasTakenBlocks run plan table) one has); goes_on = within })
-answers run new plan table handed blocks (Ok (Some rows)) has more last goes =
+answers run new plan table handed blocks (Ok (Some given)) has more last goes =
     let beyond = sym (wanted_is_next run plan table blocks has) ∙ goes.0 in
     let passed = whole_read run plan table blocks has beyond in
     let answer = goes.1 _ passed in
-    (last beyond, answer_is run plan table blocks has ∙ answer, ended_unordered run new plan table blocks rows has passed answer goes.2)
+    (last beyond, answer_is run plan table blocks has ∙ answer, ended_unordered run new plan table blocks given has passed answer goes.2)
 answers run new plan table handed blocks (Err DivisionByZero) has more last goes =
     let beyond = sym (wanted_is_next run plan table blocks has) ∙ goes.0 in
     (last beyond, answer_is run plan table blocks has ∙ goes.1 _ (whole_read run plan table blocks has beyond))
@@ -86,7 +86,7 @@ answers run new plan table handed blocks (Err Failed) has more last goes = goes
 module _ (run : Run) (plan : PlanOf) (table : TableOf) (handed : ℕ) (stands : StandsFor run plan table handed) where
   -- ---- without a block
 
-  pub after_none : (next : Run) (result : Result (Option RowsOf) ExecFault) → None ≡ handed_block plan table handed → RunGoesOn run next result
+  pub after_none : (next : Run) (result : Result (Option OrderedOf) ExecFault) → None ≡ handed_block plan table handed → RunGoesOn run next result
       → StepsTo plan table handed next result
   after_none next result is goes =
       let beyond = is_no_block plan table handed is in
@@ -104,7 +104,7 @@ module _ (run : Run) (plan : PlanOf) (table : TableOf) (handed : ℕ) (stands : 
         let at = is_block plan table handed block is in
         block_read law run new plan table handed at.0 stands.read at.1 (subst (λ (b : TableOf). HasTakenIn run new b.rows) at.2 taken)
 
-    pub after_block : (new next : Run) (result : Result (Option RowsOf) ExecFault) → HasTakenIn run new block.rows → RunGoesOn new next result
+    pub after_block : (new next : Run) (result : Result (Option OrderedOf) ExecFault) → HasTakenIn run new block.rows → RunGoesOn new next result
         → StepsTo plan table handed next result
     after_block new next result taken goes =
         let at = is_block plan table handed block is in
@@ -287,7 +287,7 @@ module _ (run : Run) (ready : IsReady run) (works : run.faulted ≡ false) (turn
   fault_answer new eval.NoMemory beyond gives = tt
 
   -- a fault of the steps is one of the run
-  pub fault_goes_on : (new : Run) (fault : EvalFault) (result : Result (Option RowsOf) ExecFault) → wanted_block run ≡ None
+  pub fault_goes_on : (new : Run) (fault : EvalFault) (result : Result (Option OrderedOf) ExecFault) → wanted_block run ≡ None
       → GivesResult (nodes_result (map node_view run.steps.items) sunk) (Err fault) → IsErrAnd result (λ made. made ≡ exec_fault fault)
       → RunGoesOn run new result
   fault_goes_on new fault (Ok made) beyond gives is = absurd is

@@ -1,13 +1,16 @@
 -- A piece of rows that come block by block.
 use Rattle.std.proofs.Common.{◌≡◌, inl, inr, ℕ, zero, suc, ◌+◌, ◌-◌, ◌^◌, ◌<◌, nat_lt, Bool, true, false, cond, Option, Some, None, List, [], ◌∷◌, ◌++◌, drop, length, take, refl, sym, ap, ◌∙◌, arith}
+use Rattle.std.specs.Prelude.{min}
+use Rattle.std.specs.Bool.{then_some}
+use Rattle.std.specs.Option.{option_or, unwrap_or}
 use Rattle.std.proofs.lemmas.Bool.{cases_lt, lt-ltb}
 use Rattle.std.proofs.Math.Seq.{drop-nil, take-nil}
-use Rattle.std.proofs.lemmas.List.{drop-map, drop-take, length-append, length-drop, length-take, take_all}
+use Rattle.std.proofs.lemmas.List.{drop-map, drop-take, drop_all, length-append, length-drop, length-take, take-take, take_all, take_min}
 use Rattle.cell_types.specs.Value.{CellValue}
 use Rattle.row_columns.specs.Picked.{numbered, values_at}
 use Rattle.block_filter.specs.declared.block.Passed.{Passed}
 use Rattle.query_meaning.specs.Meaning.{first_rows}
-use Rattle.query_plan.specs.Plan.{nodes_result, slice_view, slicing}
+use Rattle.query_plan.specs.Plan.{SliceOf, node_result, nodes_result, slice_view, slicing}
 use Rattle.query_plan.specs.Push.{room_of}
 use Rattle.result_rows.specs.Rows.{RowsOf}
 use Rattle.query_exec.specs.declared.sink.Sink.TheVariants as sink
@@ -15,7 +18,7 @@ use Rattle.query_exec.specs.declared.slice.SliceSink.{SliceSink}
 use Rattle.query_exec.specs.Steps.{without_count}
 use Rattle.query_exec.specs.Kept.{kept_names, kept_places, HasKept}
 use Rattle.query_exec.specs.Picked.{selected_rows}
-use Rattle.query_exec.specs.Sink.{room_behind, spare_of, AreFound, HasPiece, PushesOn, SinkGives}
+use Rattle.query_exec.specs.Sink.{first_result, room_behind, spare_of, AreFound, HasPiece, PushesOn, SinkGives}
 use Rattle.query_exec.proofs.CountLemmas.{first_selected, selected_long}
 
 -- ---- a piece of rows and of others after them
@@ -73,6 +76,52 @@ piece_begins skip None xs ys = (drop (skip - length xs) ys, drop_parts skip xs y
 piece_begins skip (Some n) xs ys =
     let behind = drop (skip - length xs) ys in
     (take (n - length (drop skip xs)) behind, ap (take n) (drop_parts skip xs ys) ∙ take_parts n (drop skip xs) behind)
+
+-- ---- a piece of the first rows
+
+first_are : (most : Option ℕ) (rows : List (List CellValue)) → first_rows most rows ≡ take (min (unwrap_or most (length rows)) (length rows)) rows
+first_are None rows = sym (take_min (length rows) rows ∙ take_all (length rows) rows (omega arith))
+first_are (Some n) rows = sym (take_min n rows)
+
+drop_first : (skip first : ℕ) (rows : List (List CellValue)) → drop skip (take first rows) ≡ take (first - skip) (drop skip rows)
+drop_first skip first rows = elim (cases_lt first skip) [
+  | inl less ↦
+      let none : first - skip ≡ 0 = omega (arith, less) in
+      drop_all skip (take first rows) (omega (arith, less, length-take first rows)) ∙ ap (λ k. take k (drop skip rows)) (sym none)
+  | inr more ↦ let whole : skip + (first - skip) ≡ first = omega (arith, more) in ap (λ n. drop skip (take n rows)) (sym whole) ∙ drop-take skip (first - skip) rows
+]
+
+first_left : (top : Option ℕ) (left : ℕ) (rows : List (List CellValue)) → first_rows top (take left rows) ≡ take (min (unwrap_or top left) left) rows
+first_left None left rows = let same : left ≡ min left left = omega arith in ap (λ n. take n rows) same
+first_left (Some n) left rows = elim (cases_lt n left) [
+  | inl less ↦ let same : n ≡ min n left = omega (arith, less) in take-take n left rows (omega (arith, less)) ∙ ap (λ n. take n rows) same
+  | inr more ↦
+      let same : left ≡ min n left = omega (arith, more) in
+      take_all n (take left rows) (omega (arith, more, length-take left rows)) ∙ ap (λ n. take n rows) same
+]
+
+pub asked : (b : Bool) (count : ℕ) → then_some b count ≡ cond b (Some count) None
+asked true count = refl
+asked false count = refl
+
+asked_or : (b : Bool) (first : ℕ) (count : Option ℕ) → option_or (then_some b first) count ≡ cond b (Some first) count
+asked_or true first count = refl
+asked_or false first count = refl
+
+pub piece_is : (r : RowsOf) (most : Option ℕ) (s : SliceOf) (first left top : ℕ) (made : RowsOf) → first ≡ min (unwrap_or most (length r.rows)) (length r.rows)
+    → left ≡ first - s.skip → top ≡ min (unwrap_or s.top left) left
+    → made ≡ record { names = r.names; rows = take top (drop s.skip r.rows); count = option_or (then_some s.counts first) r.count }
+    → node_result (slicing s) (first_result most r) ≡ Some made
+piece_is r most s first left top made first_is left_is top_is is =
+    let rows = r.rows in
+    let front : first_rows most rows ≡ take first rows = first_are most rows ∙ ap (λ n. take n rows) (sym first_is) in
+    let long : length (first_rows most rows) ≡ first = omega (arith, ap length front, length-take first rows, first_is) in
+    let piece : first_rows s.top (drop s.skip (first_rows most rows)) ≡ take top (drop s.skip rows) =
+    ap (λ rs. first_rows s.top (drop s.skip rs)) front ∙ ap (first_rows s.top) (drop_first s.skip first rows ∙ ap (λ n. take n (drop s.skip rows)) (sym left_is))
+    ∙ first_left s.top left (drop s.skip rows) ∙ ap (λ n. take n (drop s.skip rows)) (sym top_is) in
+    ap (λ rs. Some (record { names = r.names; rows = rs; count = cond s.counts (Some (length (first_rows most rows))) r.count })) piece
+    ∙ ap (λ n. Some (record { names = r.names; rows = take top (drop s.skip rows); count = cond s.counts (Some n) r.count })) long
+    ∙ ap (λ n. Some (record { names = r.names; rows = take top (drop s.skip rows); count = n })) (sym (asked_or s.counts first r.count)) ∙ ap Some (sym is)
 
 -- ---- rows that are pushed
 

@@ -1,10 +1,10 @@
 -- The first rows of an order that never divides by zero.
 use Rattle.std.proofs.Common.{◌≡◌, ℕ, ◌+◌, ◌<◌, Bool, true, false, ◌||◌, ◌&&◌, cond, Option, Some, None, List, [], ◌∷◌, ◌++◌, append-nil, get_or, length, map, take, refl, sym, ap, ◌∙◌, subst, arith}
 use Rattle.std.specs.Prelude.{is_none, is_some, not, option_and_then, option_map}
-use Rattle.std.specs.List.{All, AllByRecursion, list_any}
+use Rattle.std.specs.List.{All, list_any}
 use Rattle.std.proofs.lemmas.Bool.{and_parts}
 use Rattle.std.proofs.lemmas.List.{get_or-map, get_or-append-add, length-append, length-map}
-use Rattle.std.proofs.lemmas.List.Elements.{All-append, All-from_recursion}
+use Rattle.std.proofs.lemmas.List.Elements.{All-append}
 use Rattle.block_filter.specs.declared.block.Passed.{Passed}
 use Rattle.cell_types.specs.Value.{CellValue}
 use Rattle.cell_types.specs.declared.kind.NumberKind.TheVariants as numbers
@@ -35,27 +35,6 @@ use Rattle.query_exec.specs.Sink.{sink_items, MayPush, PushesOn, SinkGives}
 use Rattle.query_exec.specs.Cutoffs.{HasCutoff}
 use Rattle.query_exec.specs.TopN.{AreBestOf, AreFirst, AreTimely, HasCutRows}
 use Rattle.row_columns.proofs.NumberedLaws.{all_numbered}
-
--- ---- items that are columns alone
-
-pub plain_fits : (e : TypedExprOf) (row : List CellValue) → is_some (plain_column e) ≡ true → NumbersFit e row
-plain_fits (typed.integer (typed.number_column numbers.Integer place) bound) row h = tt
-plain_fits (typed.text (typed.text_column place)) row h = tt
-plain_fits (typed.truth (typed.truth_column place)) row h = tt
-plain_fits (typed.date (typed.date_column place)) row h = tt
-plain_fits (typed.decimal (typed.number_column numbers.Decimal place) bound) row h = tt
-plain_fits e row h = absurd (cc)
-
-items_fit : (items : List Item) (row : List CellValue) → are_plain items ≡ true → AllByRecursion (λ item. NumbersFit item.0 row) items
-items_fit [] row h = tt
-items_fit (item ∷ items) row h = (
-  plain_fits item.0 row (and_parts (is_some (plain_column item.0)) (are_plain items) h).0,
-  items_fit items row (and_parts (is_some (plain_column item.0)) (are_plain items) h).1,
-)
-
--- and each of them fits any row
-pub plain_rows_fit : (items : List Item) (rows : List (List CellValue)) → are_plain items ≡ true → All (λ row. All (λ item. NumbersFit item.0 row) items) rows
-plain_rows_fit items rows h = λ k d inside. All-from_recursion (λ item. NumbersFit item.0 (get_or rows k d)) items (items_fit items (get_or rows k d) h)
 
 -- ---- items that never divide by zero
 

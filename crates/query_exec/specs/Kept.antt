@@ -18,10 +18,6 @@ kept_places kept = optional_numbers kept.places
 abbrev pub kept_names : Kept → List (List ℕ)
 kept_names kept = map string_bytes kept.names.items
 
--- there is a column for each name
-abbrev pub IsWide : Kept → Type 0
-IsWide kept = length kept.columns.kinds ≡ length (kept_names kept)
-
 -- they are such columns of a table
 pub record AreKeptOf (kept : Kept) (schema : SchemaOf) : Type 0 where
   pub within : IfSome (kept_places kept) (All (λ place. place < length schema.columns))

@@ -16,4 +16,5 @@ pub mod Cutoffs
 pub mod Sink
 pub mod TopN
 pub mod Run
+pub mod RunKept
 pub mod Admitted

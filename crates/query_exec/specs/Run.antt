@@ -19,13 +19,13 @@ use Rattle.query_exec.specs.declared.run.Run.{Run}
 use Rattle.query_exec.specs.declared.run.Stage.TheVariants.{Reading, Ended, Refused}
 use Rattle.query_exec.specs.declared.run.Step.{Step}
 use Rattle.query_exec.specs.declared.run.Step.TheVariants.{More, Done}
-use Rattle.result_rows.specs.Rows.{BeginWith, RowsOf}
-use Rattle.query_exec.specs.Answer.{plan_answer, unordered_answer}
+use Rattle.result_rows.specs.Rows.{BeginWith, OrderedOf, RowsOf}
+use Rattle.query_exec.specs.Answer.{before_order, plan_answer, unordered_answer}
 use Rattle.query_exec.specs.Conditions.{condition_nodes}
 use Rattle.query_exec.specs.Steps.{without_count}
-use Rattle.query_exec.specs.Kept.{kept_names, kept_places, AreKeptOf, HasSameColumns, IsWide}
+use Rattle.query_exec.specs.Kept.{kept_names, kept_places, AreKeptOf, HasSameColumns}
 use Rattle.query_exec.specs.Picked.{selected_rows}
-use Rattle.query_exec.specs.Sink.{room_behind, sink_kept, sink_nodes, unordered_nodes, unordered_rows, HasPushed}
+use Rattle.query_exec.specs.Sink.{room_behind, sink_kept, sink_nodes, HasPushed}
 
 -- the number of the block that is needed after those that were handed in, where there is one
 abbrev pub next_block : PlanOf → TableOf → ℕ → Option ℕ
@@ -79,9 +79,16 @@ pub record StandsFor (run : Run) (plan : PlanOf) (table : TableOf) (handed : ℕ
   pub read : HasTakenBlocks run plan table handed
   pub goes_on : handed < run_length plan table
 
+-- rows in their order, none of which was taken
+pub record AreUntaken (rows : RowsOf) (given : OrderedOf) : Type 0 where
+  pub rows_are : given.rows ≡ rows
+  pub untaken : given.taken ≡ 0
+
 -- the run is done, and gives this
-abbrev pub RunGives : Run → RowsOf → Type 0
-RunGives run rows = run.stage ≡ Ended rows
+pub record RunGives (run : Run) (rows : RowsOf) : Type 0 where
+  pub given : OrderedOf
+  pub ended : run.stage ≡ Ended given
+  pub rows_are : AreUntaken rows given
 
 -- the run answered Done
 abbrev pub RunIsDone : Run → Type 0
@@ -102,15 +109,15 @@ pub data MayBeHanded (run : Run) (block : Option TableOf) : Type 0 where
   awaited : IsAwaited run block → MayBeHanded run block
 
 -- a run that does no more steps than its sink has the answer of a plan before an order at its end, beside the answer
-pub record IsUnordered (run : Run) (plan : PlanOf) (table : TableOf) (rows : RowsOf) : Type 0 where
-  pub wide : IfSome run.unordered IsWide
-  pub unordered_is : map node_view run.steps.items ≡ [] → unordered_answer plan table ≡ Some (unordered_rows rows run.unordered)
+pub record IsUnordered (run : Run) (plan : PlanOf) (table : TableOf) (given : OrderedOf) : Type 0 where
+  pub untaken : given.taken ≡ 0
+  pub unordered_is : map node_view run.steps.items ≡ [] → unordered_answer plan table ≡ Some given.stored
 
 -- the run is done, and has both
 pub record HasAnswered (run : Run) (plan : PlanOf) (table : TableOf) : Type 0 where
-  pub rows : RowsOf
-  pub gives : RunGives run rows
-  pub unordered : IsUnordered run plan table rows
+  pub given : OrderedOf
+  pub gives : run.stage ≡ Ended given
+  pub unordered : IsUnordered run plan table given
 
 -- a run that lends rows of a plan on a table: it stands for the plan, or is done
 pub data LendsFor (run : Run) (plan : PlanOf) (table : TableOf) : Type 0 where
@@ -134,9 +141,9 @@ pub record AreFirstRows (plan : PlanOf) (table : TableOf) (front : FirstRows) : 
 -- ---- inside
 
 -- as `AdvancesTo`, of a run whose stage is not set yet: there are rows at the call of its length, and none before it
-abbrev pub StepsTo : PlanOf → TableOf → ℕ → Run → Result (Option RowsOf) ExecFault → Type 0
+abbrev pub StepsTo : PlanOf → TableOf → ℕ → Run → Result (Option OrderedOf) ExecFault → Type 0
 StepsTo plan table handed run (Ok None) = (handed + 1 < run_length plan table) × StandsFor run plan table (handed + 1)
-StepsTo plan table handed run (Ok (Some rows)) = (handed + 1 ≡ run_length plan table) × (plan_answer plan table ≡ Some rows) × IsUnordered run plan table rows
+StepsTo plan table handed run (Ok (Some given)) = (handed + 1 ≡ run_length plan table) × (plan_answer plan table ≡ Some given.rows) × IsUnordered run plan table given
 StepsTo plan table handed run (Err DivisionByZero) = (handed + 1 ≡ run_length plan table) × (plan_answer plan table ≡ None)
 StepsTo plan table handed run (Err NoMemory) = ⊤
 StepsTo plan table handed run (Err Failed) = ⊥
@@ -184,17 +191,17 @@ wanted room next = next
 abbrev pub wanted_block : Run → Option ℕ
 wanted_block run = wanted run.room (slice_get run.left.items 0)
 
--- a run has the rows that passed as they were before they were put in order, beside the answer
-pub record KeepsUnordered (old new : Run) (rows : RowsOf) : Type 0 where
+-- a run has the rows that passed as they stood before they were put in order, beside the answer
+pub record KeepsUnordered (old new : Run) (given : OrderedOf) : Type 0 where
   pub steps : new.steps ≡ old.steps
-  pub wide : IfSome new.unordered IsWide
+  pub untaken : given.taken ≡ 0
   pub unordered_is : map node_view old.steps.items ≡ [] → (passed : List (List CellValue)) → HasPassed old (Some passed)
-      → nodes_result (unordered_nodes old.sink) (without_count (kept_names (sink_kept old.sink)) passed) ≡ Some (unordered_rows rows new.unordered)
+      → nodes_result (before_order (sink_nodes old.sink)) (without_count (kept_names (sink_kept old.sink)) passed) ≡ Some given.stored
 
 -- what a run makes of the blocks that were handed in: nothing yet where others are to come
-abbrev pub RunGoesOn : Run → Run → Result (Option RowsOf) ExecFault → Type 0
+abbrev pub RunGoesOn : Run → Run → Result (Option OrderedOf) ExecFault → Type 0
 RunGoesOn old new (Ok None) = (is_some (wanted_block old) ≡ true) × (new ≡ old)
-RunGoesOn old new (Ok (Some rows)) = (wanted_block old ≡ None) × IsRunAnswer old (Some rows) × KeepsUnordered old new rows
+RunGoesOn old new (Ok (Some given)) = (wanted_block old ≡ None) × IsRunAnswer old (Some given.rows) × KeepsUnordered old new given
 RunGoesOn old new (Err DivisionByZero) = (wanted_block old ≡ None) × IsRunAnswer old None
 RunGoesOn old new (Err NoMemory) = ⊤
 RunGoesOn old new (Err Failed) = ⊥

@@ -1,6 +1,6 @@
 -- What takes in the rows that pass the conditions of a plan. The law of a sink: where rows are pushed, piece by piece, what it finishes with is what its step
 -- makes of all of them.
-use Rattle.std.specs.Prelude.{◌≡◌, ◌<◌, ◌-◌, ◌^◌, ◌++◌, ⊤, ℕ, IfSome, true, false, List, [], ◌∷◌, Option, Some, None, drop, length, map}
+use Rattle.std.specs.Prelude.{◌≡◌, ◌<◌, ◌-◌, ◌^◌, ◌++◌, ⊤, ℕ, true, false, List, [], ◌∷◌, Option, Some, None, drop, length, map, option_to_list}
 use Rattle.std.specs.List.{All}
 use Rattle.cell_types.specs.Value.{CellValue}
 use Rattle.odata_query.specs.Aggregate.{aggregates_view}
@@ -12,12 +12,14 @@ use Rattle.sort_rows.specs.Cutoffs.{HasCalendarDays}
 use Rattle.sort_rows.specs.Runs.{HasInRuns}
 use Rattle.aggregate_rows.specs.Gathered.{Gathers}
 use Rattle.block_filter.specs.declared.block.Passed.{Passed}
-use Rattle.query_meaning.specs.Meaning.{first_rows}
+use Rattle.query_meaning.specs.Meaning.{ResultOf, first_rows}
 use Rattle.query_meaning.specs.Order.{Item}
 use Rattle.query_plan.specs.Fitting.{NodesFit}
 use Rattle.query_plan.specs.Plan.{NodeOf, choosing, nodes_result, slice_view, slicing, sorting}
 use Rattle.query_plan.specs.Push.{room_of}
-use Rattle.result_rows.specs.Rows.{RowsOf}
+use Rattle.query_plan.specs.declared.plan.Slice as plan
+use Rattle.query_plan.specs.Rewrite.{chosen}
+use Rattle.result_rows.specs.Rows.{OrderedOf, RowsOf}
 use Rattle.query_exec.specs.declared.aggregate.AggregateSink.{AggregateSink}
 use Rattle.query_exec.specs.declared.front.FirstRows.{FirstRows}
 use Rattle.query_exec.specs.declared.kept.Kept.{Kept}
@@ -26,10 +28,11 @@ use Rattle.query_exec.specs.declared.sink.Sink.TheVariants.{Aggregate, Collect, 
 use Rattle.query_exec.specs.declared.slice.SliceSink.{SliceSink}
 use Rattle.query_exec.specs.declared.sorted.SortedSink.{SortedSink}
 use Rattle.query_exec.specs.declared.top_n.TopNSink.{TopNSink}
+use Rattle.query_exec.specs.Answer.{before_order}
 use Rattle.query_exec.specs.Cutoffs.{HasCutoff}
 use Rattle.query_exec.specs.Steps.{aggregate_node, without_count}
 use Rattle.query_exec.specs.Items.{none_can_fault, ItemsFit}
-use Rattle.query_exec.specs.Kept.{kept_names, kept_places, AreKeptOf, AreKeptRows, HasSameColumns, IsWide}
+use Rattle.query_exec.specs.Kept.{kept_names, kept_places, AreKeptOf, AreKeptRows, HasSameColumns}
 use Rattle.query_exec.specs.Picked.{selected_rows}
 
 abbrev pub sink_items : TopNSink → List Item
@@ -45,18 +48,21 @@ sink_kept (TopN sink) = sink.kept
 sink_kept (Sorted sink) = sink.kept
 sink_kept (Aggregate sink) = sink.kept
 
--- the step that it does, where it does one
+-- an order, or the first rows in it, and a piece of them
+abbrev pub sorted_nodes : List Item → Option ℕ → Option plan.Slice → List NodeOf
+sorted_nodes items most slice = chosen (sorting items) most ∷ map (λ s. slicing (slice_view s)) (option_to_list slice)
+
+-- the steps that it does
 abbrev pub sink_nodes : Sink → List NodeOf
 sink_nodes (Collect kept) = []
 sink_nodes (Slice sink) = slicing (slice_view sink.slice) ∷ []
 sink_nodes (TopN sink) = choosing (sink_items sink) sink.most ∷ []
-sink_nodes (Sorted sink) = sorting (sorted_items sink) ∷ []
+sink_nodes (Sorted sink) = sorted_nodes (sorted_items sink) sink.most sink.slice
 sink_nodes (Aggregate sink) = aggregate_node (optional_numbers sink.places) (aggregates_view sink.aggregates) ∷ []
 
--- that step, unless it is an order
-abbrev pub unordered_nodes : Sink → List NodeOf
-unordered_nodes (Sorted sink) = []
-unordered_nodes sink = sink_nodes sink
+-- the first rows of a result, under its names
+abbrev pub first_result : Option ℕ → ResultOf → ResultOf
+first_result most r = record { names = r.names; rows = first_rows most r.rows; count = r.count }
 
 -- ---- the rows that were pushed
 
@@ -127,12 +133,17 @@ pub record PushesOn (old new : Sink) (rows : List (List CellValue)) (found : Pas
 
 -- ---- before the finish
 
+-- rows that are put in order are lent, unless a piece of the order is asked for
+abbrev pub LendsWhole : SortedSink → Option FirstRows → Type 0
+LendsWhole sink None = ⊤
+LendsWhole sink (Some front) = (sink.most ≡ None) × (sink.slice ≡ None) × AreKeptRows sink.kept front
+
 -- a sink whose step makes of rows what it has kept of them, or puts that in order, lends that, and another lends nothing
 abbrev pub LendsKept : Sink → Option FirstRows → Type 0
 LendsKept (Collect kept) (Some front) = AreKeptRows kept front
 LendsKept (Slice sink) (Some front) = AreKeptRows sink.kept front
 LendsKept (TopN sink) None = ⊤
-LendsKept (Sorted sink) (Some front) = AreKeptRows sink.kept front
+LendsKept (Sorted sink) front = LendsWhole sink front
 LendsKept (Aggregate sink) None = ⊤
 LendsKept _ _ = ⊥
 
@@ -145,18 +156,13 @@ pub record MayFinish (sink : Sink) : Type 0 where
   pub pushed : HasPushed sink rows
   pub fits : NodesFit (sink_nodes sink) (without_count (kept_names (sink_kept sink)) rows)
 
--- that is what its step makes of the rows that were pushed
+-- that is what its steps make of the rows that were pushed
 pub record SinkGives (sink : Sink) (given : RowsOf) : Type 0 where
   pub gives : (rows : List (List CellValue)) → HasPushed sink rows → nodes_result (sink_nodes sink) (without_count (kept_names (sink_kept sink)) rows) ≡ Some given
 
--- the rows that are kept as they were before they were put in order, if they were, else those that are given
-abbrev pub unordered_rows : RowsOf → Option Kept → RowsOf
-unordered_rows given None = given
-unordered_rows given (Some kept) = without_count (kept_names kept) kept.columns.rows
-
--- that is what its step makes of them, and what it makes of them before it puts them in order
-pub record SinkEnds (sink : Sink) (given : RowsOf) (unordered : Option Kept) : Type 0 where
-  pub given_is : SinkGives sink given
-  pub wide : IfSome unordered IsWide
-  pub unordered_is : (rows : List (List CellValue)) → HasPushed sink rows
-      → nodes_result (unordered_nodes sink) (without_count (kept_names (sink_kept sink)) rows) ≡ Some (unordered_rows given unordered)
+-- that is what its steps make of them, and what they make of them before an order at their end
+pub record SinkEnds (sink : Sink) (given : OrderedOf) : Type 0 where
+  pub given_is : SinkGives sink given.rows
+  pub untaken : given.taken ≡ 0
+  pub stored_is : (rows : List (List CellValue)) → HasPushed sink rows
+      → nodes_result (before_order (sink_nodes sink)) (without_count (kept_names (sink_kept sink)) rows) ≡ Some given.stored

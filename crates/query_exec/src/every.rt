@@ -12,13 +12,6 @@ use std::alloc::{AllocError, Global};
 use table_store::Block;
 use typed_trees::TruthExpr;
 
-/// Returns the numbers of the first `len` rows.
-pub(crate) fn all_numbers(alloc: Global, len: usize) -> Result<Vec<usize>, AllocError>
-    ensures { IfOk result (λ numbers. numbers.items ≡ numbers_from 0 len) }
-{
-    Selection::all(len).to_vec(alloc)
-}
-
 /// Returns all rows, as they are found. It takes no memory.
 fn every_row(rows: usize) -> Passed
     ensures rows { result.rows ≡ numbers_from 0 rows }

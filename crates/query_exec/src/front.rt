@@ -1,11 +1,8 @@
 //! Rows that are lent before the answer is there.
-ghost use Rattle.std.specs.Prelude.{◌≡◌, IfSome, length, map, option_map, string_bytes};
+ghost use Rattle.std.specs.Prelude.{◌≡◌, length, map, string_bytes};
 ghost use Rattle.query_exec.specs.Answer.{OrdersMoveRows};
-ghost use Rattle.query_exec.specs.Kept.{IsWide};
-ghost use Rattle.query_exec.specs.Sink.{unordered_rows};
 
-use crate::kept::Kept;
-use result_rows::Rows;
+use result_rows::OrderedRows;
 use row_columns::Columns;
 
 /// The names of an answer, and its first rows.
@@ -22,20 +19,15 @@ pub fn orders_move_rows()
     query_meaning::rows_are_in_order();
 }
 
-/// Returns all rows of an answer, as they were before they were put in order, if they were.
-pub(crate) fn unordered_front<'r>(rows: &'r Rows, unordered: Option<&'r Kept>) -> FirstRows<'r>
-    ensures names { map string_bytes result.names.now
-        ≡ (unordered_rows rows.now (option_map (λ k. k.now) unordered.entry)).names }
-    ensures rows { result.columns.now.rows
-        ≡ (unordered_rows rows.now (option_map (λ k. k.now) unordered.entry)).rows }
-    ensures width { IfSome (option_map (λ k. k.now) unordered.entry) IsWide
-        → length result.columns.now.kinds ≡ length result.names.now }
+/// Returns all rows of an answer, as they stood before they were put in order.
+pub(crate) fn stored_front(rows: &OrderedRows) -> FirstRows<'_>
+    ensures names { map string_bytes result.names.now ≡ rows.now.stored.names }
+    ensures rows { result.columns.now.rows ≡ rows.now.stored.rows }
+    ensures width { length result.columns.now.kinds ≡ length result.names.now }
 {
-    match unordered {
-        Some(kept) => kept.lent(),
-        None => FirstRows {
-            names: rows.names(),
-            columns: rows.columns(),
-        },
+    let rows = rows.table();
+    FirstRows {
+        names: rows.names(),
+        columns: rows.columns(),
     }
 }

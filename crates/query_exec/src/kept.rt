@@ -6,9 +6,7 @@ ghost use Rattle.odata_query.specs.Query.{optional_numbers};
 ghost use Rattle.row_columns.specs.Picked.{numbered};
 ghost use Rattle.query_exec.specs.Kept.{kept_names, kept_places, AreKeptOf, AreKeptRows, HasKept, HasReduced};
 ghost use Rattle.query_exec.specs.Picked.{selected_rows};
-ghost use Rattle.query_exec.specs.Steps.{without_count};
 
-use crate::every::all_numbers;
 use crate::front::FirstRows;
 use csvw_meta::Schema;
 use result_rows::{Rows, names_of, picked_names};
@@ -114,29 +112,5 @@ impl Kept {
     {
         let Kept { names, columns, .. } = self;
         Rows::new(names, columns, count)
-    }
-
-    /// Returns a copy of the rows with these numbers, in their order. The values are shared.
-    pub(crate) fn in_order(&self, alloc: Global, numbers: &[usize]) -> Result<Rows, AllocError>
-        requires within { All (λ n. n < length self.now.columns.rows) numbers.now }
-        requires width { length self.now.columns.kinds ≡ length (kept_names self.now) }
-        ensures { IfOk result (λ rows. rows ≡ without_count (kept_names self.now)
-            (numbered numbers.now self.now.columns.rows)) }
-    {
-        self.columns.rows_are_wide();
-        let all = all_numbers(alloc, self.columns.width())?;
-        let names = picked_names(alloc, self.names.as_slice(), all.as_slice())?;
-        let columns = self.columns.picked(alloc, all.as_slice(), numbers)?;
-        Ok(Rows::new(names, columns, None))
-    }
-
-    /// Returns the rows with these numbers, in their order.
-    pub(crate) fn with_numbers(self, alloc: Global, numbers: &[usize]) -> Result<Rows, AllocError>
-        requires within { All (λ n. n < length self.columns.rows) numbers.now }
-        requires width { length self.columns.kinds ≡ length (kept_names self) }
-        ensures { IfOk result (λ rows. rows
-            ≡ without_count (kept_names self) (numbered numbers.now self.columns.rows)) }
-    {
-        self.into_rows(None).with_rows(alloc, numbers, None)
     }
 }

@@ -11,6 +11,7 @@ mod kept;
 mod names;
 mod parts;
 mod run;
+mod run_kept;
 mod sink;
 mod slice;
 mod sorted;
@@ -19,5 +20,6 @@ mod top_n;
 
 pub use fault::ExecFault;
 pub use front::{FirstRows, orders_move_rows};
-pub use result_rows::Rows;
+pub use result_rows::{OrderedRows, Rows};
 pub use run::{Run, Step};
+pub use run_kept::RunKept;

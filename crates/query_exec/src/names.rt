@@ -1,5 +1,5 @@
 //! The names of the columns of aggregates.
-ghost use Rattle.std.specs.Prelude.{◌≡◌, ◌<◌, IfOk, IfSome, ◌++◌, length, map, string_bytes};
+ghost use Rattle.std.specs.Prelude.{◌≡◌, ◌<◌, IfOk, IfSome, length, map, string_bytes};
 ghost use Rattle.std.specs.List.{All};
 ghost use Rattle.odata_query.specs.Aggregate.{named_view};
 ghost use Rattle.query_plan.specs.Plan.{node_names};
@@ -9,21 +9,6 @@ ghost use Rattle.query_exec.specs.Steps.{aggregate_node};
 use odata_query::NamedAggregate;
 use result_rows::picked_names;
 use std::alloc::{AllocError, Global};
-
-/// Appends the aliases of aggregates to names.
-fn with_aliases(
-    names: Vec<String>,
-    aggregates: &[NamedAggregate],
-) -> Result<Vec<String>, AllocError>
-    ensures { IfOk result (λ made. map string_bytes made.items ≡ map string_bytes names.items
-        ++ map (λ a. a.alias) (map named_view aggregates.now)) }
-{
-    let mut names = names;
-    for named in aggregates {
-        names.push(named.alias.clone()?)?;
-    }
-    Ok(names)
-}
 
 /// Returns the names of the columns that rows are grouped by, if so, and after them the aliases of aggregates.
 pub(crate) fn aggregate_names(
@@ -37,8 +22,12 @@ pub(crate) fn aggregate_names(
         ≡ node_names (aggregate_node (lent_places places.entry) (map named_view aggregates.now))
         (map string_bytes names.now)) }
 {
-    match places {
-        Some(places) => with_aliases(picked_names(alloc, names, places)?, aggregates),
-        None => with_aliases(Vec::new(alloc), aggregates),
+    let mut made = match places {
+        Some(places) => picked_names(alloc, names, places)?,
+        None => Vec::new(alloc),
+    };
+    for named in aggregates {
+        made.push(named.alias.clone()?)?;
     }
+    Ok(made)
 }

@@ -7,16 +7,18 @@ ghost use Rattle.table_store.specs.Table.{TableOf};
 ghost use Rattle.query_plan.specs.Fitting.{IsFitFor};
 ghost use Rattle.query_plan.specs.Plan.{plan_view, PlanOf};
 ghost use Rattle.result_rows.specs.Rows.{RowsOf};
+ghost use Rattle.query_exec.specs.RunKept.{RunKeeps};
 ghost use Rattle.query_exec.specs.declared.fault.ExecFault.TheVariants.{NoMemory, Failed};
 ghost use Rattle.query_exec.specs.declared.run.Step.TheVariants.{Done};
-ghost use Rattle.query_exec.specs.Run.{handed_block, next_block, AdvancesTo, AreFirstRows, HasTakenIn, LendsFor, RunGives, RunGoesOn, RunIsRefused, IsAwaited, RunIsDone, IsReady, MayBeHanded, MayTakeIn, StandsFor, StepsTo, wanted_block};
+ghost use Rattle.query_exec.specs.Run.{handed_block, next_block, AdvancesTo, AreFirstRows, AreUntaken, HasTakenIn, LendsFor, RunGives, RunGoesOn, RunIsRefused, IsAwaited, RunIsDone, IsReady, MayBeHanded, MayTakeIn, StandsFor, StepsTo, wanted_block};
 
 use crate::admitted::admitted;
 use crate::every::found_rows;
 use crate::fault::ExecFault;
-use crate::front::{FirstRows, unordered_front};
+use crate::front::{FirstRows, stored_front};
 use crate::kept::Kept;
 use crate::parts::{Parts, split};
+use crate::run_kept::RunKept;
 use crate::sink::Sink;
 use crate::slice::room_behind;
 use crate::steps::apply_all;
@@ -25,7 +27,7 @@ use block_summary::{Summary, one_range};
 use csvw_meta::Schema;
 use odata_types::tables_are_inputs;
 use query_plan::{Node, Plan, nodes_in_turn, scans_read_table_rows};
-use result_rows::Rows;
+use result_rows::OrderedRows;
 use std::alloc::{AllocError, Global};
 use std::collections::VecDeque;
 use std::mem;
@@ -43,7 +45,7 @@ pub enum Step {
 #[derive(Drop)]
 enum Stage {
     Reading,
-    Ended(Rows),
+    Ended(OrderedRows),
     Refused,
 }
 
@@ -62,8 +64,6 @@ pub struct Run {
     sink: Sink,
     /// The steps on what the sink makes of them.
     steps: Vec<Node>,
-    /// The rows of the answer as they were before they were put in order, if the sink did that.
-    unordered: Option<Kept>,
     stage: Stage,
 }
 
@@ -80,7 +80,7 @@ impl Run {
 
     /// Returns what the steps make of the rows that passed the conditions, once every block that is needed was handed in. A division by zero, of a
     /// condition too, is reported here.
-    fn go_on(&mut self, alloc: Global) -> Result<Option<Rows>, ExecFault>
+    fn go_on(&mut self, alloc: Global) -> Result<Option<OrderedRows>, ExecFault>
         requires { wanted_block self.old ≡ None → IsReady self.old }
         ensures { RunGoesOn self.old self.new result }
     {
@@ -92,10 +92,13 @@ impl Run {
             return Err(ExecFault::DivisionByZero);
         }
         let sink = mem::replace(&mut self.sink, Sink::Collect(Kept::none(alloc)));
-        let (sunk, unordered) = sink.finish(alloc)?;
-        self.unordered = unordered;
-        let made = apply_all(alloc, &self.steps, sunk)?;
-        Ok(Some(made))
+        let sunk = sink.finish(alloc)?;
+        if self.steps.is_empty() {
+            return Ok(Some(sunk));
+        }
+        let rows = sunk.into_rows(alloc)?;
+        let made = apply_all(alloc, &self.steps, rows)?;
+        Ok(Some(OrderedRows::stored(made)))
     }
 
     /// Takes in the rows of the next block: those that pass the conditions go to the sink, until a condition divides by zero.
@@ -120,7 +123,11 @@ impl Run {
     }
 
     /// Takes in the block, if one is needed, and goes on.
-    fn step(&mut self, alloc: Global, block: Option<Block<'_>>) -> Result<Option<Rows>, ExecFault>
+    fn step(
+        &mut self,
+        alloc: Global,
+        block: Option<Block<'_>>,
+    ) -> Result<Option<OrderedRows>, ExecFault>
         requires { IsAwaited self.old block }
         ensures steps { (plan : PlanOf) (table : TableOf) (handed : ℕ)
             → StandsFor self.old plan table handed → block.entry ≡ handed_block plan table handed
@@ -159,10 +166,10 @@ impl Run {
         let Parts {
             conditions,
             places,
-            steps,
+            mut steps,
         } = split(alloc, nodes)?;
         let kept = Kept::new(alloc, schema, places)?;
-        let (sink, steps) = Sink::of(alloc, kept, steps)?;
+        let sink = Sink::of(alloc, kept, &mut steps)?;
         Ok(Run {
             left,
             room: scan.stop,
@@ -170,7 +177,6 @@ impl Run {
             faulted: false,
             sink,
             steps,
-            unordered: None,
             stage: Stage::Reading,
         })
     }
@@ -188,6 +194,16 @@ impl Run {
         }
     }
 
+    /// Returns what is kept of the rows that passed so far for the step after the conditions: rows for an order, and groups.
+    pub fn kept(&self) -> RunKept
+        ensures { RunKeeps self.now result }
+    {
+        if !self.faulted {
+            return self.sink.keeps(&self.steps);
+        }
+        RunKept::Nothing
+    }
+
     /// Returns the names of the answer and the rows that passed so far, if the answer has these rows, in any order. After Done it returns all rows of the
     /// answer. An order at the end of the steps is left out.
     pub fn front(&self) -> Option<FirstRows<'_>>
@@ -200,7 +216,7 @@ impl Run {
         }
         match &self.stage {
             Stage::Reading => self.sink.front(),
-            Stage::Ended(rows) => Some(unordered_front(rows, self.unordered.as_ref())),
+            Stage::Ended(rows) => Some(stored_front(rows)),
             Stage::Refused => None,
         }
     }
@@ -236,9 +252,9 @@ impl Run {
     }
 
     /// Returns the rows of a run that answered Done. It takes no memory.
-    pub fn finish(self) -> Rows
+    pub fn finish(self) -> OrderedRows
         requires { RunIsDone self }
-        ensures { (rows : RowsOf) → RunGives self rows → result ≡ rows }
+        ensures { (rows : RowsOf) → RunGives self rows → AreUntaken rows result }
     {
         let Run { stage, .. } = self;
         match stage {

@@ -1,6 +1,8 @@
 //! What takes in the rows that pass the conditions of a plan: it does the step after them.
 ghost use Rattle.std.specs.Prelude.{◌≡◌, ◌++◌, ◌∷◌, [], IfOk, OnOk, map, option_to_list};
-ghost use Rattle.query_plan.specs.Plan.{node_view};
+ghost use Rattle.odata_query.specs.Query.{order_view};
+ghost use Rattle.query_plan.specs.Plan.{node_view, slice_view, slicing, sorting};
+ghost use Rattle.query_plan.specs.Rewrite.{chosen};
 ghost use Rattle.query_exec.specs.Sink.{sink_kept, sink_nodes, spare_of, LendsKept, SinkEnds, HasPushed, MayFinish, MayPush, PushesOn};
 
 use crate::aggregate::AggregateSink;
@@ -10,8 +12,9 @@ use crate::slice::SliceSink;
 use crate::sorted::SortedSink;
 use crate::top_n::{TopNSink, none_can_fault};
 use block_filter::Passed;
-use query_plan::Node;
-use result_rows::Rows;
+use odata_query::OrderBy;
+use query_plan::{Node, Slice};
+use result_rows::OrderedRows;
 use sort_rows::SortedRuns;
 use std::alloc::{AllocError, Global};
 use table_store::Block;
@@ -27,63 +30,91 @@ pub(crate) enum Sink {
     Aggregate(AggregateSink),
 }
 
-impl Sink {
-    /// Returns the sink that does the first of some steps, if there is one, and the steps after it.
-    pub(crate) fn of(
-        alloc: Global,
-        kept: Kept,
-        steps: Vec<Node>,
-    ) -> Result<(Sink, Vec<Node>), AllocError>
-        requires { kept.columns.rows ≡ [] }
-        ensures nodes { IfOk result (λ made.
-            sink_nodes made.0 ++ map node_view made.1.items ≡ map node_view steps.items) }
-        ensures kept { IfOk result (λ made. sink_kept made.0 ≡ kept) }
-        ensures none { IfOk result (λ made. HasPushed made.0 []) }
-    {
-        let mut steps = steps;
-        if steps.is_empty() {
-            return Ok((Sink::Collect(kept), steps));
-        }
-        let (sink, left) = Sink::doing(alloc, kept, steps.remove(0))?;
-        if let Some(step) = left {
-            steps.insert(0, step)?;
-        }
-        Ok((sink, steps))
-    }
+/// Of up to this many first rows in an order, the rows that may be among them are kept; for more, all rows are put in order.
+const MOST_KEPT: u64 = 16_384;
 
-    /// Returns the sink that does a step, or a sink of all rows and the step.
-    fn doing(alloc: Global, kept: Kept, step: Node) -> Result<(Sink, Option<Node>), AllocError>
+/// Takes out the first of some steps if it is a piece of the rows, and returns that piece.
+fn take_slice(steps: &mut Vec<Node>) -> Option<Slice>
+    ensures { map node_view steps.old.items ≡ map (λ s. slicing (slice_view s))
+        (option_to_list result) ++ map node_view steps.new.items }
+{
+    let slice = match steps.first() {
+        Some(Node::Slice(slice)) => *slice,
+        Some(_) | None => return None,
+    };
+    let _step = steps.remove(0);
+    Some(slice)
+}
+
+impl Sink {
+    /// Takes out the first of some steps if a sink does it, and what the sink does of those after it, and returns that sink; else a sink of all rows.
+    pub(crate) fn of(alloc: Global, kept: Kept, steps: &mut Vec<Node>) -> Result<Sink, AllocError>
         requires { kept.columns.rows ≡ [] }
-        ensures nodes { IfOk result (λ made.
-            sink_nodes made.0 ++ map node_view (option_to_list made.1) ≡ node_view step ∷ []) }
-        ensures kept { IfOk result (λ made. sink_kept made.0 ≡ kept) }
-        ensures none { IfOk result (λ made. HasPushed made.0 []) }
+        ensures nodes { IfOk result (λ sink.
+            sink_nodes sink ++ map node_view steps.new.items ≡ map node_view steps.old.items) }
+        ensures kept { IfOk result (λ sink. sink_kept sink ≡ kept) }
+        ensures none { IfOk result (λ sink. HasPushed sink []) }
     {
-        match step {
+        if steps.is_empty() {
+            return Ok(Sink::Collect(kept));
+        }
+        match steps.remove(0) {
             Node::Slice(slice) => {
                 let count = 0;
-                Ok((Sink::Slice(SliceSink { kept, slice, count }), None))
+                Ok(Sink::Slice(SliceSink { kept, slice, count }))
             }
-            Node::Best(items, most) => {
-                if none_can_fault(&items) {
-                    return Ok((Sink::TopN(TopNSink::new(kept, items, most)), None));
-                }
-                Ok((Sink::Collect(kept), Some(Node::Best(items, most))))
-            }
-            Node::Sort(items) => match SortedRuns::new(alloc, &items)? {
-                Some(runs) => Ok((Sink::Sorted(SortedSink { kept, items, runs }), None)),
-                None => Ok((Sink::Collect(kept), Some(Node::Sort(items)))),
-            },
+            Node::Best(items, most) => Sink::in_order(alloc, kept, items, Some(most), steps),
+            Node::Sort(items) => Sink::in_order(alloc, kept, items, None, steps),
             Node::Aggregate(aggregates) => {
                 let sink = AggregateSink::new(alloc, kept, None, aggregates)?;
-                Ok((Sink::Aggregate(sink), None))
+                Ok(Sink::Aggregate(sink))
             }
             Node::Group(places, aggregates) => {
                 let sink = AggregateSink::new(alloc, kept, Some(places), aggregates)?;
-                Ok((Sink::Aggregate(sink), None))
+                Ok(Sink::Aggregate(sink))
             }
-            step => Ok((Sink::Collect(kept), Some(step))),
+            step => {
+                steps.insert(0, step)?;
+                Ok(Sink::Collect(kept))
+            }
         }
+    }
+
+    /// Returns the sink of the first `most` rows in the order of items, or of all. If the rows are put in order as they come, it does a piece of them too that
+    /// is first of `steps`, and takes that out. If it can do neither, it is a sink of all rows, and the order is put before `steps`.
+    fn in_order(
+        alloc: Global,
+        kept: Kept,
+        items: Vec<OrderBy>,
+        most: Option<u64>,
+        steps: &mut Vec<Node>,
+    ) -> Result<Sink, AllocError>
+        requires { kept.columns.rows ≡ [] }
+        ensures nodes { IfOk result (λ sink. sink_nodes sink ++ map node_view steps.new.items
+            ≡ chosen (sorting (map order_view items.items)) most ∷ map node_view steps.old.items) }
+        ensures kept { IfOk result (λ sink. sink_kept sink ≡ kept) }
+        ensures none { IfOk result (λ sink. HasPushed sink []) }
+    {
+        if most.unwrap_or(u64::MAX) > MOST_KEPT {
+            if let Some(runs) = SortedRuns::new(alloc, &items)? {
+                let slice = take_slice(steps);
+                return Ok(Sink::Sorted(SortedSink {
+                    kept,
+                    items,
+                    runs,
+                    most,
+                    slice,
+                }));
+            }
+        }
+        match most {
+            Some(most) if none_can_fault(&items) => {
+                return Ok(Sink::TopN(TopNSink::new(kept, items, most)));
+            }
+            Some(most) => steps.insert(0, Node::Best(items, most))?,
+            None => steps.insert(0, Node::Sort(items))?,
+        }
+        Ok(Sink::Collect(kept))
     }
 
     /// Returns how many more rows it takes in by their numbers, if that is limited: of the others it takes in how many they are.
@@ -115,32 +146,36 @@ impl Sink {
         }
     }
 
-    /// Returns the rows that it keeps, if these are what its step makes of the rows that it took in, or what it puts in order.
+    /// Returns the rows that it keeps, if these are what its step makes of the rows that it took in, or all that it puts in order.
     pub(crate) fn front(&self) -> Option<FirstRows<'_>>
         ensures { LendsKept self.now result }
     {
         match self {
             Sink::Collect(kept) => Some(kept.lent()),
             Sink::Slice(sink) => Some(sink.kept.lent()),
-            Sink::Sorted(sink) => Some(sink.kept.lent()),
-            Sink::TopN(_) | Sink::Aggregate(_) => None,
+            Sink::Sorted(
+                SortedSink {
+                    kept,
+                    most: None,
+                    slice: None,
+                    ..
+                },
+            ) => Some(kept.lent()),
+            Sink::TopN(_) | Sink::Sorted(_) | Sink::Aggregate(_) => None,
         }
     }
 
-    /// Returns what its step makes of all rows that it took in, and the rows as they came, if it put them in order.
-    pub(crate) fn finish(self, alloc: Global) -> Result<(Rows, Option<Kept>), AllocError>
+    /// Returns what its steps make of all rows that it took in.
+    pub(crate) fn finish(self, alloc: Global) -> Result<OrderedRows, AllocError>
         requires { MayFinish self }
-        ensures { IfOk result (λ made. SinkEnds self made.0 made.1) }
+        ensures { IfOk result (SinkEnds self) }
     {
         match self {
-            Sink::Collect(kept) => Ok((kept.into_rows(None), None)),
-            Sink::Slice(sink) => Ok((sink.finish(), None)),
-            Sink::TopN(sink) => Ok((sink.finish(alloc)?, None)),
-            Sink::Sorted(sink) => {
-                let (rows, kept) = sink.finish(alloc)?;
-                Ok((rows, Some(kept)))
-            }
-            Sink::Aggregate(sink) => Ok((sink.finish(alloc)?, None)),
+            Sink::Collect(kept) => Ok(OrderedRows::stored(kept.into_rows(None))),
+            Sink::Slice(sink) => Ok(OrderedRows::stored(sink.finish())),
+            Sink::TopN(sink) => Ok(OrderedRows::stored(sink.finish(alloc)?)),
+            Sink::Sorted(sink) => sink.finish(alloc),
+            Sink::Aggregate(sink) => Ok(OrderedRows::stored(sink.finish(alloc)?)),
         }
     }
 }

@@ -1,12 +1,13 @@
 //! A sink of a piece of the rows.
-ghost use Rattle.std.specs.Prelude.{◌≡◌, None, OnOk, Some, if◌then◌else◌};
+ghost use Rattle.std.specs.Prelude.{◌≡◌, IfOk, OnOk};
+ghost use Rattle.query_plan.specs.Plan.{node_result, slice_view, slicing};
 ghost use Rattle.query_exec.specs.declared.sink.Sink.TheVariants as sink;
-ghost use Rattle.query_exec.specs.Sink.{room_behind, spare_of, SinkGives, MayFinish, MayPush, PushesOn};
+ghost use Rattle.query_exec.specs.Sink.{first_result, room_behind, spare_of, SinkGives, MayFinish, MayPush, PushesOn};
 
 use crate::kept::Kept;
 use block_filter::Passed;
 use query_plan::Slice;
-use result_rows::Rows;
+use result_rows::{OrderedRows, Rows};
 use std::alloc::{AllocError, Global};
 use table_store::Block;
 
@@ -20,19 +21,39 @@ pub(crate) fn room_behind(room: Option<u64>, passed: u64) -> Option<u64>
     }
 }
 
+/// The piece that all rows are.
+pub(crate) const ALL_ROWS: Slice = Slice {
+    skip: 0,
+    top: None,
+    counts: false,
+};
+
+/// Returns a piece of the first `most` rows, or of all.
+pub(crate) fn piece_of(
+    alloc: Global,
+    rows: OrderedRows,
+    most: Option<u64>,
+    slice: Slice,
+) -> Result<Rows, AllocError>
+    requires { rows.taken ≡ 0 }
+    ensures { IfOk result (λ made. node_result (slicing (slice_view slice))
+        (first_result most rows.rows) ≡ Some made) }
+{
+    let len = rows.len() as u64;
+    let first = most.unwrap_or(len).min(len);
+    let left = first.saturating_sub(slice.skip);
+    let top = slice.top.unwrap_or(left).min(left);
+    let count = slice.counts.then_some(first).or(rows.table().count());
+    let piece = rows.cut(alloc, slice.skip, top, count)?;
+    Ok(piece)
+}
+
 /// A piece of the rows: its own are kept, and all are counted.
 #[derive(Drop)]
 pub(crate) struct SliceSink {
     pub(crate) kept: Kept,
     pub(crate) slice: Slice,
     pub(crate) count: u64,
-}
-
-/// Returns how many rows there are if `slice` counts them.
-fn count_if_asked(slice: Slice, count: u64) -> Option<u64>
-    ensures { result ≡ (if slice.counts then Some count else None) }
-{
-    if slice.counts { Some(count) } else { None }
 }
 
 impl SliceSink {
@@ -73,6 +94,6 @@ impl SliceSink {
         ensures { SinkGives (sink.Slice self) result }
     {
         let SliceSink { kept, slice, count } = self;
-        kept.into_rows(count_if_asked(slice, count))
+        kept.into_rows(slice.counts.then_some(count))
     }
 }

@@ -1,22 +1,27 @@
 //! A sink of all rows in the order of items that are columns.
-ghost use Rattle.std.specs.Prelude.{IfOk, OnOk, Some};
+ghost use Rattle.std.specs.Prelude.{IfOk, OnOk};
 ghost use Rattle.query_exec.specs.declared.sink.Sink.TheVariants as sink;
 ghost use Rattle.query_exec.specs.Sink.{MayFinish, MayPush, PushesOn, SinkEnds};
 
 use crate::kept::Kept;
+use crate::slice::{ALL_ROWS, piece_of};
 use block_filter::Passed;
 use odata_query::OrderBy;
-use result_rows::Rows;
+use query_plan::Slice;
+use result_rows::OrderedRows;
 use sort_rows::SortedRuns;
 use std::alloc::{AllocError, Global};
 use table_store::Block;
 
-/// All rows, which are put in order as they are taken in.
+/// All rows, which are put in order as they are taken in, and which of them are asked for.
 #[derive(Drop)]
 pub(crate) struct SortedSink {
     pub(crate) kept: Kept,
     pub(crate) items: Vec<OrderBy>,
     pub(crate) runs: SortedRuns,
+    /// How many of the first rows are asked for, if not all are, and the piece of these, if one is.
+    pub(crate) most: Option<u64>,
+    pub(crate) slice: Option<Slice>,
 }
 
 impl SortedSink {
@@ -36,14 +41,17 @@ impl SortedSink {
         Ok(())
     }
 
-    /// Returns all rows in order, and as they came.
-    pub(crate) fn finish(self, alloc: Global) -> Result<(Rows, Kept), AllocError>
+    /// Returns the rows in order that are asked for. If all of them are, none is moved.
+    pub(crate) fn finish(self, alloc: Global) -> Result<OrderedRows, AllocError>
         requires { MayFinish (sink.Sorted self) }
-        ensures { IfOk result (λ made. SinkEnds (sink.Sorted self) made.0 (Some made.1)) }
+        ensures { IfOk result (SinkEnds (sink.Sorted self)) }
     {
-        let SortedSink { kept, items, runs } = self;
-        let numbers = runs.finish(alloc, &kept.columns, &items)?;
-        let rows = kept.in_order(alloc, numbers.as_slice())?;
-        Ok((rows, kept))
+        let order = self.runs.finish(alloc, &self.kept.columns)?;
+        let rows = OrderedRows::in_order(self.kept.into_rows(None), order);
+        if self.most.is_none() && self.slice.is_none() {
+            return Ok(rows);
+        }
+        let piece = piece_of(alloc, rows, self.most, self.slice.unwrap_or(ALL_ROWS))?;
+        Ok(OrderedRows::stored(piece))
     }
 }

@@ -5,21 +5,21 @@ ghost use Rattle.typed_trees.specs.TypedTree.{truth_view};
 ghost use Rattle.odata_query.specs.Aggregate.{named_view};
 ghost use Rattle.odata_query.specs.Query.{order_view};
 ghost use Rattle.query_plan.specs.Fitting.{IsFitNode, NodesFit};
-ghost use Rattle.query_plan.specs.Plan.{counted, filtering, node_result, node_rows, node_view, nodes_result, projecting, slice_view, slicing, sorting};
+ghost use Rattle.query_plan.specs.Plan.{filtering, node_result, node_rows, node_view, nodes_result, projecting, sorting};
 ghost use Rattle.query_plan.specs.Rewrite.{chosen};
 ghost use Rattle.aggregate_rows.specs.Gathered.{lent_places};
 ghost use Rattle.sort_rows.specs.Numbers.{GivesOrder};
 ghost use Rattle.row_selection.specs.Numbers.{numbers_from};
 ghost use Rattle.query_exec.specs.Steps.{aggregate_node, GivesResult};
 
-use crate::every::all_numbers;
 use crate::names::aggregate_names;
+use crate::slice::piece_of;
 use aggregate_rows::gathered;
 use odata_query::{NamedAggregate, OrderBy};
-use query_plan::{Node, Slice};
-use result_rows::{Rows, picked_names};
+use query_plan::Node;
+use result_rows::{OrderedRows, Rows, all_numbers, picked_names};
 use row_eval::EvalFault;
-use sort_rows::{best_numbers, passing_numbers, piece, sorted_numbers};
+use sort_rows::{best_numbers, passing_numbers, sorted_numbers};
 use std::alloc::{AllocError, Global};
 use typed_trees::TruthExpr;
 
@@ -96,27 +96,6 @@ fn sort(alloc: Global, input: Rows, items: &[OrderBy], most: Option<u64>) -> Res
     Ok(rows)
 }
 
-/// Returns how many rows there are if `slice` counts them, else the count of before.
-fn count_after(input: &Rows, slice: Slice) -> Option<u64>
-    ensures { result ≡ counted (slice_view slice) input.now }
-{
-    if slice.counts {
-        Some(input.len() as u64)
-    } else {
-        input.count()
-    }
-}
-
-/// Returns a piece of the rows, and how many they are if that is asked for.
-fn cut(alloc: Global, input: Rows, slice: Slice) -> Result<Rows, AllocError>
-    ensures { IfOk result (λ made. node_result (slicing (slice_view slice)) input ≡ Some made) }
-{
-    let count = count_after(&input, slice);
-    let numbers = piece(all_numbers(alloc, input.len())?, slice.skip, slice.top);
-    let rows = input.with_rows(alloc, numbers.as_slice(), count)?;
-    Ok(rows)
-}
-
 /// Returns what a step makes of rows.
 fn apply(alloc: Global, node: &Node, input: Rows) -> Result<Rows, EvalFault>
     requires { IsFitNode (node_view node.now) input }
@@ -130,7 +109,7 @@ fn apply(alloc: Global, node: &Node, input: Rows) -> Result<Rows, EvalFault>
         }
         Node::Sort(items) => sort(alloc, input, items, None),
         Node::Best(items, most) => sort(alloc, input, items, Some(*most)),
-        Node::Slice(slice) => Ok(cut(alloc, input, *slice)?),
+        Node::Slice(slice) => Ok(piece_of(alloc, OrderedRows::stored(input), None, *slice)?),
         Node::Project(places) => Ok(project(alloc, &input, places)?),
     }
 }

@@ -14,6 +14,5 @@ pub mod BoundLemmas
 pub mod RowSizeLemmas
 pub mod TurnLemmas
 pub mod CursorLemmas
-pub mod ErrorLemmas
 pub mod WaitingLemmas
 mod ByteLemmas

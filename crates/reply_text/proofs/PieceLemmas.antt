@@ -1,11 +1,12 @@
 -- The pieces of bodies of rows: which is at a place, and that all of them are the body.
 use Rattle.std.proofs.Common.{◌≡◌, ℕ, zero, suc, ◌+◌, ◌-◌, ◌<◌, ◌≤◌, List, [], ◌∷◌, ◌++◌, codes, get_or, length, map, refl, sym, ap, ◌∙◌, arith, tests, append_assoc, length-append}
 use Rattle.std.specs.List.{AllByRecursion, concat, join_with_byte}
-use Rattle.std.proofs.lemmas.List.{append-nil, get_or-map, length-map}
+use Rattle.std.proofs.lemmas.List.{append-nil}
 use Rattle.cell_types.specs.Value.{CellValue}
-use Rattle.result_rows.specs.Rows.{RowsOf}
+use Rattle.result_rows.specs.Rows.{OrderedOf, RowsOf}
 use Rattle.reply_text.specs.Body.{rows_text}
 use Rattle.reply_text.specs.Csv.{csv_line, csv_text, row_line}
+use Rattle.reply_text.specs.Inside.{IsTakenTo}
 use Rattle.reply_text.specs.Json.{comma_before, json_row}
 use Rattle.reply_text.specs.Pieces.{csv_pieces, json_items, json_opening, json_pieces}
 use Rattle.reply_values.specs.Printed.{csv_value}
@@ -48,12 +49,37 @@ json_last rows (suc row) some past inside =
     let same : row ≡ length rows.rows = omega (arith, past, inside, items_count rows.names 0 rows.rows) in
     ap (λ n. get_or (json_items rows.names 0 rows.rows) n []) same ∙ end_at rows.names 0 rows.rows
 
-pub csv_piece : (rows : RowsOf) (number : ℕ) → 0 < number → number < length (csv_pieces rows)
-    → (number - 1 < length rows.rows) × (get_or (csv_pieces rows) number [] ≡ row_line (get_or rows.rows (number - 1) []))
-csv_piece rows number some within =
-    let inside : number - 1 < length rows.rows = omega (arith, some, within, length-map rows.rows row_line) in
-    let same : number ≡ suc (number - 1) = omega (arith, some) in
-    (inside, ap (λ n. get_or (csv_pieces rows) n []) same ∙ get_or-map row_line rows.rows (number - 1) [] [] inside)
+-- one that is neither the first nor the last is a row
+pub json_inside : (rows : RowsOf) (number len : ℕ) → (number ≡ 0 → ⊥) → number < length (json_pieces rows) → (number - 1 ≡ len → ⊥) → len ≡ length rows.rows → number - 1 < length rows.rows
+json_inside rows number len some within other is = omega (arith, some, within, other, is, items_count rows.names 0 rows.rows)
+
+-- ---- of rows that are taken in turn
+
+-- the same rows, of which one more was taken
+abbrev pub with_next : OrderedOf → OrderedOf
+with_next rows = record { stored = rows.stored; rows = rows.rows; taken = rows.taken + 1 }
+
+-- the row that was next, as it stands in the table
+row_taken : (rows : OrderedOf) (number place : ℕ) → IsTakenTo rows number → number - 1 < length rows.rows.rows
+    → get_or rows.stored.rows place [] ≡ get_or rows.rows.rows rows.taken [] → get_or rows.rows.rows (number - 1) [] ≡ get_or rows.stored.rows place []
+row_taken rows number place taken inside is =
+    let at : number - 1 ≡ rows.taken = omega (arith, taken, inside) in
+    ap (λ n. get_or rows.rows.rows n []) at ∙ sym is
+
+pub json_taken : (rows new : OrderedOf) (table : RowsOf) (number place : ℕ) → IsTakenTo rows number → 0 < number → number - 1 < length rows.rows.rows
+    → get_or rows.stored.rows place [] ≡ get_or rows.rows.rows rows.taken [] → new ≡ with_next rows → table ≡ new.stored → new.rows.names ≡ new.stored.names
+    → get_or (json_pieces rows.rows) number [] ≡ comma_before (number - 1) ++ json_row table.names (get_or table.rows place [])
+json_taken rows new table number place taken some inside is next table_is names =
+    let stands : table ≡ rows.stored = table_is ∙ ap (λ (o : OrderedOf). o.stored) next in
+    let named : rows.rows.names ≡ table.names = ap (λ (o : OrderedOf). o.rows.names) (sym next) ∙ names ∙ ap (λ (r : RowsOf). r.names) (sym table_is) in
+    json_piece rows.rows number some inside
+    ∙ ap (λ row. comma_before (number - 1) ++ json_row rows.rows.names row) (row_taken rows number place taken inside is ∙ ap (λ (r : RowsOf). get_or r.rows place []) (sym stands))
+    ∙ ap (λ ns. comma_before (number - 1) ++ json_row ns (get_or table.rows place [])) named
+
+-- after that one row more was taken
+pub one_taken : (rows new : OrderedOf) (number : ℕ) → IsTakenTo rows number → 0 < number → number - 1 < length rows.rows.rows → new ≡ with_next rows → IsTakenTo new (number + 1)
+one_taken rows new number taken some inside next =
+    omega (arith, taken, some, inside, ap (λ (o : OrderedOf). o.taken) next, ap (λ (o : OrderedOf). length o.rows.rows) next)
 
 -- ---- none is empty
 

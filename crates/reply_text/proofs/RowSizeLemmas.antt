@@ -72,9 +72,6 @@ counted_on old new count more rows pieces first less within same new_is goes are
 pub whole : (rows : RowsOf) (names : List (List ℕ)) (first : List (List CellValue)) → rows.names ≡ names → first ≡ rows.rows → BeginWith rows names first
 whole rows names first named are = record { names_are = named; rest = []; rows_are = sym are ∙ sym (append-nil first) }
 
-pub all_rows : (rows : RowsOf) (count : ℕ) (first : List (List CellValue)) → first ≡ rows.rows → max count (length first) ≤ length rows.rows → max count (length first) ≡ length rows.rows
-all_rows rows count first are within = omega (arith, within, ap length are)
-
 pub json_all : (rows : RowsOf) (sizes : RowSizes) (count opening all most now last : ℕ) → sizes.len ≡ length rows.rows → AreJsonSizes sizes count rows
     → opening ≡ told (length (json_opening rows.count)) → all ≡ told (sizes.sizes.all + opening) → most ≡ max sizes.sizes.longest opening → now ≡ told (all + 2) → last ≡ max most 2
     → AreSizesOf (json_pieces rows) now last

@@ -1,20 +1,18 @@
 -- Sizes do not depend on the order in which pieces are counted.
-use Rattle.std.proofs.Common.{◌≡◌, ℕ, zero, suc, ◌+◌, ◌-◌, ◌<◌, ◌≤◌, List, [], ◌∷◌, ◌++◌, drop, get_or, length, map, take, refl, sym, ap, ◌∙◌, subst, arith, length-append}
+use Rattle.std.proofs.Common.{◌≡◌, ℕ, zero, suc, ◌+◌, ◌-◌, ◌<◌, ◌≤◌, List, [], ◌∷◌, ◌++◌, length, map, refl, sym, ap, ◌∙◌, subst, arith, length-append}
 use Rattle.std.specs.Prelude.{max}
-use Rattle.std.specs.List.{All, AllByRecursion, concat, sum_by}
+use Rattle.std.specs.List.{AllByRecursion, concat, sum_by}
 use Rattle.std.specs.List.Sorted.{IsPermutation}
-use Rattle.std.proofs.lemmas.List.{drop_more, length-map, take_all}
 use Rattle.std.proofs.lemmas.List.Elements.{All-from_recursion, recursion_from_All}
 use Rattle.std.proofs.lemmas.List.Sums.{sum_by-cons}
-use Rattle.std.proofs.lemmas.List.Sorted.{All-permutation, IsPermutation-cons, IsPermutation-map, IsPermutation-refl, IsPermutation-sym, length_permutation, sum_by-IsPermutation}
+use Rattle.std.proofs.lemmas.List.Sorted.{All-permutation, IsPermutation-cons, IsPermutation-map, IsPermutation-sym, length_permutation, sum_by-IsPermutation}
 use Rattle.cell_types.specs.Value.{CellValue}
-use Rattle.result_rows.specs.Rows.{AreReordered, RowsOf}
-use Rattle.row_columns.specs.Numbers.{numbers_from}
+use Rattle.result_rows.specs.Rows.{AreReordered, OrderedOf, RowsOf}
 use Rattle.reply_text.specs.declared.row_sizes.RowSizes.{RowSizes}
 use Rattle.reply_text.specs.Csv.{csv_line, row_line}
 use Rattle.reply_text.specs.Json.{comma_before, json_row}
 use Rattle.reply_text.specs.Pieces.{csv_pieces, json_items, json_opening, json_pieces, longest_of, AreSizesOf, AreSizesWithin}
-use Rattle.reply_text.specs.RowSizes.{AreCsvSizes, AreJsonSizes, CountFirst, HaveAllCsvSizes, HaveAllJsonSizes, HaveJsonSizes}
+use Rattle.reply_text.specs.RowSizes.{AreCsvSizes, AreJsonSizes, CountFirst, HaveAllCsvSizes, HaveAllJsonSizes}
 use Rattle.reply_values.specs.Size.{told}
 use Rattle.reply_text.proofs.BoundLemmas.{pieces_within}
 use Rattle.reply_text.proofs.PieceLemmas.{comma_there}
@@ -43,37 +41,6 @@ sizes_permuted xs ys all longest moved are = record {
       let same : longest_of ys ≡ longest_of xs = omega (arith, longest_no_less xs ys moved, longest_no_less ys xs (IsPermutation-sym xs ys moved)) in
       are.most ∙ ap told same;
 }
-
--- ---- turns
-
-below : (start count most : ℕ) → start + count ≤ most → AllByRecursion (λ n. n < most) (numbers_from start count)
-below start zero most few = tt
-below start (suc count) most few = (omega (arith, few), below (suc start) count most (omega (arith, few)))
-
-pub turns_within : (count : ℕ) (turns : List ℕ) → IsPermutation (numbers_from 0 count) turns → All (λ n. n < count) turns
-turns_within count turns moved =
-    All-permutation (λ n. n < count) (numbers_from 0 count) turns moved (All-from_recursion (λ n. n < count) (numbers_from 0 count) (below 0 count count (omega arith)))
-
--- the piece that has a number
-abbrev pub piece_at : List (List ℕ) → ℕ → List ℕ
-piece_at pieces n = get_or pieces n []
-
-at_each : (pieces : List (List ℕ)) (start count : ℕ) → start + count ≤ length pieces → map (piece_at pieces) (numbers_from start count) ≡ take count (drop start pieces)
-at_each pieces start zero few = refl
-at_each pieces start (suc count) few =
-    let one : start + 1 ≡ suc start = omega arith in
-    ap (λ l. get_or pieces start [] ∷ l) (at_each pieces (suc start) count (omega (arith, few)) ∙ ap (λ n. take count (drop n pieces)) (sym one))
-    ∙ ap (take (suc count)) (sym (drop_more pieces start [] (omega (arith, few))))
-
-pub in_turns : (pieces : List (List ℕ)) (count : ℕ) (turns : List ℕ) (all longest : ℕ) → count ≤ length pieces → IsPermutation (numbers_from 0 count) turns
-    → AreSizesOf (take (length turns) (map (piece_at pieces) turns)) all longest → AreSizesOf (take count pieces) all longest
-in_turns pieces count turns all longest few moved are =
-    let mapped = map (piece_at pieces) turns in
-    let whole : take (length turns) mapped ≡ mapped = take_all (length turns) mapped (omega (arith, length-map turns (piece_at pieces))) in
-    let first : map (piece_at pieces) (numbers_from 0 count) ≡ take count pieces = at_each pieces 0 count (omega (arith, few)) in
-    subst (λ l. AreSizesOf l all longest) first
-    (sizes_permuted (map (piece_at pieces) (numbers_from 0 count)) mapped all longest (IsPermutation-map (piece_at pieces) (numbers_from 0 count) turns moved)
-    (subst (λ l. AreSizesOf l all longest) whole are))
 
 -- ---- the items of rows in another order
 
@@ -181,21 +148,10 @@ all_lines rows sizes line now last has line_is now_is last_is =
     csv_reordered others rows now last moved
     (csv_all others sizes (length rows.rows) line now last (omega (arith, are.len, long)) are (line_is ∙ ap (λ ns. told (length (csv_line ns))) moved.names) now_is last_is)
 
-pub as_it_stands : (rows : RowsOf) → AreReordered rows rows
-as_it_stands rows = record { names = refl; moved = IsPermutation-refl rows.rows }
+-- ---- rows that are taken in turn are those of their table in another order
 
--- where all of the rows were counted, some first ones were
-pub all_counted : (rows : RowsOf) (sizes : RowSizes) (names : List (List ℕ)) (first : List (List CellValue)) → names ≡ rows.names → first ≡ rows.rows → sizes.len ≡ length first
-    → CountFirst (length first) (json_items names 0 first) sizes.sizes → HaveJsonSizes sizes rows
-all_counted rows sizes names first named are len counted = (
-  length rows.rows,
-  rows,
-  as_it_stands rows,
-  record {
-    len = len ∙ ap length are;
-    within = omega arith;
-    counted =
-        subst (λ ns. CountFirst (length rows.rows) (json_items ns 0 rows.rows) sizes.sizes) named
-        (subst (λ rs. CountFirst (length rs) (json_items names 0 rs) sizes.sizes) are counted);
-  },
-)
+-- the rows of the table are as many
+pub all_stored : (rows : OrderedOf) (table : RowsOf) (first : List (List CellValue)) → table ≡ rows.stored → first ≡ table.rows → AreReordered rows.stored rows.rows
+    → max 0 (length first) ≡ length rows.rows.rows
+all_stored rows table first is are moved =
+    omega (arith, ap length are, ap (λ (r : RowsOf). length r.rows) is, length_permutation rows.stored.rows rows.rows.rows moved.moved)

@@ -10,7 +10,7 @@ use crate::counted::with_rows;
 use crate::row_sizes::RowSizes;
 use crate::sizes::Sizes;
 use cell_texts::Frame;
-use result_rows::Rows;
+use result_rows::OrderedRows;
 use row_columns::Columns;
 
 /// Returns how many bytes names take.
@@ -49,23 +49,23 @@ pub fn with_lines(before: Sizes, columns: &Columns, first: usize) -> Sizes
 }
 
 /// Returns the sizes of all rows, which are counted anew unless all were.
-fn all_lines(rows: &Rows, counted: RowSizes) -> RowSizes
-    requires { HaveCsvSizes counted rows.now }
-    ensures { HaveAllCsvSizes result rows.now }
+fn all_lines(rows: &OrderedRows, counted: RowSizes) -> RowSizes
+    requires { HaveCsvSizes counted rows.now.rows }
+    ensures { HaveAllCsvSizes result rows.now.rows }
 {
     if counted.len == rows.len() {
         return counted;
     }
     let mut sizes = RowSizes::none();
-    sizes.count_csv(rows.columns());
+    sizes.count_csv(rows.table().columns());
     sizes
 }
 
 /// Returns how many bytes the lines of rows take as CSV, of which some rows were counted.
-pub fn csv_sizes(rows: &Rows, counted: RowSizes) -> Sizes
-    requires { HaveCsvSizes counted rows.now }
-    ensures { AreSizesOf (csv_pieces rows.now) result.all result.longest }
+pub fn csv_sizes(rows: &OrderedRows, counted: RowSizes) -> Sizes
+    requires { HaveCsvSizes counted rows.now.rows }
+    ensures { AreSizesOf (csv_pieces rows.now.rows) result.all result.longest }
 {
     let lines = all_lines(rows, counted);
-    lines.sizes.with(name_line_size(rows.names()))
+    lines.sizes.with(name_line_size(rows.table().names()))
 }

@@ -1,21 +1,20 @@
 //! Bodies that are written piece by piece, within room that was reserved.
 ghost use Rattle.std.specs.Prelude.{◌≡◌, ◌+◌, ◌++◌, ◌==◌, ◌<◌, ◌≤◌, IfOk, length, take};
 ghost use Rattle.std.specs.List.{concat};
-ghost use Rattle.reply_text.specs.Body.{row_text, rows_text};
+ghost use Rattle.reply_text.specs.Body.{rows_text};
 ghost use Rattle.reply_text.specs.Csv.{csv_text};
-ghost use Rattle.reply_text.specs.Inside.{body_pieces, MayLay};
+ghost use Rattle.reply_text.specs.Inside.{body_pieces, AreWrittenTo, MayLay};
 ghost use Rattle.reply_text.specs.Pieces.{csv_pieces, json_pieces, AreSizesWithin, IsNearLongest};
 ghost use Rattle.reply_text.specs.RowSizes.{HaveCsvSizes, HaveJsonSizes};
 
-use crate::body::row_body;
 use crate::csv_sizes::csv_sizes;
 use crate::json_rows::{heads_of, push_opening};
 use crate::json_sizes::json_sizes;
-use crate::json_turns::counted_in_turns;
-use crate::pieces::Pieces;
+use crate::pieces::{JsonRows, Pieces};
 use crate::row_sizes::RowSizes;
 use crate::sizes::Sizes;
-use result_rows::Rows;
+use cell_texts::RowTurns;
+use result_rows::OrderedRows;
 use std::alloc::{AllocError, Global};
 use std::marker::Model;
 
@@ -28,8 +27,6 @@ pub struct BodyCursor {
     /// How many bytes are left.
     size: usize,
     longest: usize,
-    /// What was read of cells before they were needed.
-    seen: Option<u8>,
 }
 
 impl Model for BodyCursor {
@@ -47,6 +44,7 @@ impl Model for BodyCursor {
 /// Returns a body of pieces with the number of their bytes. `Err` if that has more than 64 bits.
 fn of_pieces(pieces: Pieces, sizes: Sizes) -> Result<BodyCursor, AllocError>
     requires lays { MayLay pieces }
+    requires taken { AreWrittenTo pieces 0 }
     requires sizes { AreSizesWithin (body_pieces pieces) sizes.all sizes.longest }
     ensures bytes { IfOk result (λ body. body.bytes ≡ concat (body_pieces pieces)) }
     ensures longest { IfOk result (λ body. IsNearLongest (body_pieces pieces) body.longest) }
@@ -54,72 +52,51 @@ fn of_pieces(pieces: Pieces, sizes: Sizes) -> Result<BodyCursor, AllocError>
     if sizes.all == usize::MAX {
         return Err(AllocError);
     }
-    let seen = pieces.none_seen();
     Ok(BodyCursor {
         pieces,
         next: 0,
         size: sizes.all,
         longest: sizes.longest,
-        seen,
     })
 }
 
 impl BodyCursor {
-    /// Returns rows as a JSON object whose member `value` has an object for each row (OData 4.01 JSON Format, section 13): what stands before the rows, each row,
-    /// what stands after them. At an `Err` memory ran out, or the body has more bytes than 64 bits tell.
-    pub fn json(alloc: Global, rows: Rows) -> Result<BodyCursor, AllocError>
-        ensures bytes { IfOk result (λ body. body.bytes ≡ rows_text rows) }
-        ensures longest { IfOk result (λ body. IsNearLongest (json_pieces rows) body.longest) }
-    {
-        BodyCursor::json_counted(alloc, rows, RowSizes::none())
-    }
-
-    /// Returns the same of rows of which some were counted.
+    /// Returns rows, of which some were counted, as a JSON object whose member `value` has an object for each row (OData 4.01 JSON Format, section 13): what
+    /// stands before the rows, each row, what stands after them. At an `Err` memory ran out, or the body has more bytes than 64 bits tell.
     pub fn json_counted(
         alloc: Global,
-        rows: Rows,
+        rows: OrderedRows,
         counted: RowSizes,
     ) -> Result<BodyCursor, AllocError>
-        requires { HaveJsonSizes counted rows }
-        ensures bytes { IfOk result (λ body. body.bytes ≡ rows_text rows) }
-        ensures longest { IfOk result (λ body. IsNearLongest (json_pieces rows) body.longest) }
+        requires counted { HaveJsonSizes counted rows.rows }
+        requires untaken { rows.taken ≡ 0 }
+        ensures bytes { IfOk result (λ body. body.bytes ≡ rows_text rows.rows) }
+        ensures longest { IfOk result
+            (λ body. IsNearLongest (json_pieces rows.rows) body.longest) }
     {
-        let heads = heads_of(alloc, rows.names())?;
+        let table = rows.table();
+        let heads = heads_of(alloc, table.names())?;
         let mut opening = Vec::new(alloc);
-        push_opening(&mut opening, rows.count())?;
-        let counted = counted_in_turns(alloc, &rows, counted)?;
+        push_opening(&mut opening, table.count())?;
         let sizes = json_sizes(&rows, counted);
-        let body = of_pieces(Pieces::Json(rows, heads, opening), sizes)?;
-        Ok(body)
+        let json = JsonRows {
+            rows: RowTurns::of(rows),
+            heads,
+            opening,
+        };
+        of_pieces(Pieces::Json(json), sizes)
     }
 
-    /// Returns rows as CSV: the line of the names, and a line for each row. At an `Err` the body has more bytes than 64 bits tell.
-    pub fn csv(rows: Rows) -> Result<BodyCursor, AllocError>
-        ensures bytes { IfOk result (λ body. body.bytes ≡ csv_text rows) }
-        ensures longest { IfOk result (λ body. IsNearLongest (csv_pieces rows) body.longest) }
-    {
-        BodyCursor::csv_counted(rows, RowSizes::none())
-    }
-
-    /// Returns the same of rows of which some were counted.
-    pub fn csv_counted(rows: Rows, counted: RowSizes) -> Result<BodyCursor, AllocError>
-        requires { HaveCsvSizes counted rows }
-        ensures bytes { IfOk result (λ body. body.bytes ≡ csv_text rows) }
-        ensures longest { IfOk result (λ body. IsNearLongest (csv_pieces rows) body.longest) }
+    /// Returns rows, of which some were counted, as CSV: the line of the names, and a line for each row. At an `Err` the body has more bytes than 64 bits tell.
+    pub fn csv_counted(rows: OrderedRows, counted: RowSizes) -> Result<BodyCursor, AllocError>
+        requires counted { HaveCsvSizes counted rows.rows }
+        requires untaken { rows.taken ≡ 0 }
+        ensures bytes { IfOk result (λ body. body.bytes ≡ csv_text rows.rows) }
+        ensures longest { IfOk result
+            (λ body. IsNearLongest (csv_pieces rows.rows) body.longest) }
     {
         let sizes = csv_sizes(&rows, counted);
-        let body = of_pieces(Pieces::Csv(rows), sizes)?;
-        Ok(body)
-    }
-
-    /// Returns the one row as a JSON object (OData 4.01 JSON Format, section 6).
-    pub fn row(alloc: Global, rows: &Rows) -> Result<BodyCursor, AllocError>
-        requires { length rows.now.rows ≡ 1 }
-        ensures bytes { IfOk result (λ body. body.bytes ≡ row_text rows.now) }
-        ensures longest { IfOk result (λ body. body.longest ≡ length (row_text rows.now)) }
-    {
-        let bytes = row_body(alloc, rows)?;
-        Ok(BodyCursor::of_bytes(bytes))
+        of_pieces(Pieces::Csv(RowTurns::of(rows)), sizes)
     }
 
     /// Returns bytes that are there, as one piece.
@@ -133,7 +110,6 @@ impl BodyCursor {
             next: 0,
             size,
             longest: size,
-            seen: None,
         }
     }
 
@@ -171,7 +147,6 @@ impl BodyCursor {
         if self.size == 0 {
             return at;
         }
-        self.seen = self.pieces.read_ahead(self.next, self.seen);
         let end = self.pieces.put(out, at, self.next);
         self.size -= end - at;
         self.next += 1;

@@ -7,7 +7,7 @@ ghost use Rattle.reply_text.specs.Size.{row_frame};
 ghost use Rattle.reply_values.specs.Size.{told};
 
 use crate::json_sizes::frame_size;
-use crate::put_rows::put_item;
+use crate::put_rows::{put_comma, put_object};
 use cell_texts::row_room;
 use reply_values::{push_number, push_text};
 use result_rows::Rows;
@@ -73,7 +73,8 @@ pub fn push_item(
 {
     let at = out.len();
     out.resize(at.saturating_add(item_room(rows, row, frame)), 0)?;
-    let end = put_item(out.as_mut_slice(), at, rows, row, heads);
+    let start = put_comma(out.as_mut_slice(), at, row);
+    let end = put_object(out.as_mut_slice(), start, rows, row, heads);
     out.truncate(end);
     Ok(())
 }

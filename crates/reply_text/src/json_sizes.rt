@@ -12,7 +12,7 @@ use crate::row_sizes::RowSizes;
 use crate::sizes::Sizes;
 use cell_texts::Frame;
 use reply_values::{number_size, text_size};
-use result_rows::Rows;
+use result_rows::OrderedRows;
 use row_columns::Columns;
 
 /// Returns how many bytes names take, each with its colon.
@@ -38,7 +38,7 @@ pub(crate) fn frame_size(names: &[String]) -> usize
 }
 
 /// Returns how many bytes rows take without their values, each but the first with the comma before it.
-pub(crate) fn object_frame(names: &[String]) -> Frame
+fn object_frame(names: &[String]) -> Frame
     ensures { IsObjectFrame (map string_bytes names.now) result }
 {
     Frame {
@@ -76,25 +76,29 @@ fn opening_size(count: Option<u64>) -> usize
 }
 
 /// Returns the sizes of all rows, which are counted anew unless all were.
-fn all_objects(rows: &Rows, counted: RowSizes) -> RowSizes
-    requires { HaveJsonSizes counted rows.now }
-    ensures { HaveAllJsonSizes result rows.now }
+fn all_objects(rows: &OrderedRows, counted: RowSizes) -> RowSizes
+    requires { HaveJsonSizes counted rows.now.rows }
+    ensures { HaveAllJsonSizes result rows.now.rows }
 {
     if counted.len == rows.len() {
         return counted;
     }
     let mut sizes = RowSizes::none();
-    sizes.count_json(rows.names(), rows.columns());
+    let table = rows.table();
+    sizes.count_json(table.names(), table.columns());
     sizes
 }
 
 /// Returns how many bytes the pieces of rows take as a JSON object, of which some rows were counted.
-pub fn json_sizes(rows: &Rows, counted: RowSizes) -> Sizes
-    requires { HaveJsonSizes counted rows.now }
-    ensures { AreSizesWithin (json_pieces rows.now) result.all result.longest }
+pub fn json_sizes(rows: &OrderedRows, counted: RowSizes) -> Sizes
+    requires { HaveJsonSizes counted rows.now.rows }
+    ensures { AreSizesWithin (json_pieces rows.now.rows) result.all result.longest }
 {
     let objects = all_objects(rows, counted);
-    let sizes = objects.sizes.with(opening_size(rows.count())).with(2);
+    let sizes = objects
+        .sizes
+        .with(opening_size(rows.table().count()))
+        .with(2);
     // The row that was counted first may have a comma before it.
     let longest = sizes.longest.saturating_add(1);
     Sizes { longest, ..sizes }

@@ -10,7 +10,6 @@ mod csv_sizes;
 mod cursor;
 mod json_rows;
 mod json_sizes;
-mod json_turns;
 mod laws;
 mod output;
 mod pieces;

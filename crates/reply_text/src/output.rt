@@ -84,14 +84,6 @@ impl Output {
         self.first.is_empty()
     }
 
-    /// Adds the bytes of a whole reply after those that wait. At an `Err` memory ran out, and none of them was added.
-    pub fn add(&mut self, reply: &[u8]) -> Result<(), AllocError>
-        ensures { self.new ≡ (if is_ok result then self.old ++ reply.now else self.old) }
-    {
-        let bytes = Vec::from_slice(self.alloc, reply)?;
-        self.give(bytes)
-    }
-
     /// Adds a whole reply after the bytes that wait, in its own buffer. If none wait, no memory is taken. At an `Err` memory ran out, and
     /// none of it was added.
     pub fn give(&mut self, reply: Vec<u8>) -> Result<(), AllocError>

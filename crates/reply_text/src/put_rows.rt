@@ -13,7 +13,7 @@ use row_columns::Cell;
 
 /// Writes a comma before every item but the first.
 #[inline(always)]
-fn put_comma(out: &mut [u8], at: usize, place: usize) -> usize
+pub(crate) fn put_comma(out: &mut [u8], at: usize, place: usize) -> usize
     requires { at + length (comma_before place) ≤ length out.old }
     ensures long { length out.new ≡ length out.old }
     ensures bytes { take result out.new ≡ take at out.old ++ comma_before place }
@@ -59,21 +59,26 @@ fn put_members(out: &mut [u8], at: usize, rows: &Rows, row: usize, heads: &[Vec<
     end
 }
 
-/// Writes the row with a number as an object, after its comma.
-pub fn put_item(out: &mut [u8], at: usize, rows: &Rows, row: usize, heads: &[Vec<u8>]) -> usize
+/// Writes the row with a number as an object.
+#[inline(always)]
+pub(crate) fn put_object(
+    out: &mut [u8],
+    at: usize,
+    rows: &Rows,
+    row: usize,
+    heads: &[Vec<u8>],
+) -> usize
     requires row { row < length rows.now.rows }
     requires heads { AreHeads rows.now.names heads.now }
-    requires room { at + length
-        (comma_before row ++ json_row rows.now.names (get_or rows.now.rows row []))
+    requires room { at + length (json_row rows.now.names (get_or rows.now.rows row []))
         ≤ length out.old }
     ensures long { length out.new ≡ length out.old }
-    ensures bytes { take result out.new ≡ take at out.old
-        ++ (comma_before row ++ json_row rows.now.names (get_or rows.now.rows row [])) }
-    ensures end { result ≡ at + length
-        (comma_before row ++ json_row rows.now.names (get_or rows.now.rows row [])) }
+    ensures bytes { take result out.new
+        ≡ take at out.old ++ json_row rows.now.names (get_or rows.now.rows row []) }
+    ensures end { result
+        ≡ at + length (json_row rows.now.names (get_or rows.now.rows row [])) }
 {
-    let comma = put_comma(out, at, row);
-    let start = put_byte(out, comma, b'{');
+    let start = put_byte(out, at, b'{');
     let end = put_members(out, start, rows, row, heads);
     put_byte(out, end, b'}')
 }

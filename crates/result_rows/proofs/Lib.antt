@@ -1,1 +1,5 @@
 mod RowLemmas
+mod OrderedLemmas
+pub mod FrontLemmas
+pub mod CutLemmas
+mod PieceLemmas

@@ -1,3 +1,5 @@
 pub mod Rows
 pub mod Inside
+pub mod Ordered
+pub mod Fronts
 pub use Rattle.query_meaning.specs.Meaning

@@ -32,3 +32,9 @@ pub record BeginWith (rows : RowsOf) (names : List (List ℕ)) (first : List (Li
 pub record AreReordered (old new : RowsOf) : Type 0 where
   pub names : new.names ≡ old.names
   pub moved : IsPermutation old.rows new.rows
+
+-- rows in their order, of which the first `taken` were taken, and as they stood before they were put in order
+pub record OrderedOf : Type 0 where
+  pub stored : RowsOf
+  pub rows : RowsOf
+  pub taken : ℕ

@@ -2,8 +2,14 @@
 //! was asked for.
 #![tactic(auto)]
 
+mod cut;
 mod names;
+mod ordered;
 mod rows;
+mod skip;
 
+pub use cut::all_numbers;
 pub use names::{names_of, picked_names};
+pub use ordered::OrderedRows;
 pub use rows::Rows;
+pub use skip::skip_rows;

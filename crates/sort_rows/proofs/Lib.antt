@@ -14,6 +14,9 @@ pub mod CutoffLemmas
 pub mod ColumnTestLemmas
 pub mod NumberTestLemmas
 pub mod MergeLemmas
+pub mod RisingLemmas
 pub mod RunLemmas
+pub mod StandLemmas
+pub mod StreamLemmas
 pub mod RunKeyLemmas
 pub mod StackLemmas

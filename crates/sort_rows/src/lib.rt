@@ -13,6 +13,7 @@ mod plain;
 mod run_rows;
 mod runs;
 mod sorting;
+mod streams;
 mod text_keys;
 mod top_n;
 
@@ -21,6 +22,9 @@ pub use cutoffs::{cutoff, first_place, nearness};
 pub use law::{best_in_pieces, orders_are_merged, rows_are_cut_off};
 pub use passing::passing_numbers;
 pub use pieces::piece;
+pub use plain::PlainItem;
+pub use run_rows::{RunRow, is_less};
 pub use runs::SortedRuns;
 pub use sorting::sorted_numbers;
+pub use streams::{First, SortedRows, Stream, first_of};
 pub use top_n::TopN;

@@ -1,4 +1,4 @@
-use Rattle.std.proofs.Common.{◌≡◌, sym, ◌∙◌, FitsSigned, of_z, rules, subst, to_z}
+use Rattle.std.proofs.Common.{◌≡◌, sym, FitsSigned, of_z, rules, subst, to_z}
 use Rattle.std.specs.Int.{w128}
 use Rattle.std.proofs.lemmas.Int.{to_z-of_z}
 use Rattle.cell_types.specs.Value.{value_view}

@@ -56,8 +56,8 @@ counted-sizes-requires-in-Ok-Done c =
     (c.in-Ok-Done.ensures.advances is.plan is.table is.handed (lent_stands c.args.self.run.value c.deref_mut.result.now is.plan is.table is.handed c.deref_mut.ensures.value is.stands) block) in
     (is.plan, is.table, lent_lends c.advance.new.self c.deref-in-Ok-Done.result.now is.plan is.table c.deref-in-Ok-Done.ensures (ended on.4))
 
-pub answer_response-requires : goal.answer_response-requires
-answer_response-requires c =
+pub answer_response-requires-clause-counted : goal.answer_response-requires-clause-counted
+answer_response-requires-clause-counted c =
     let is = c.requires.2 in
     let block = block_is c.args.catalog.now c.tables.result.now c.args.self c.index-tables-self.result c.next_block-block.result c.requires.0 c.requires.1 is c.tables.ensures
     c.index-tables-self.is
@@ -66,9 +66,19 @@ answer_response-requires c =
     (c.in-Ok-Done.ensures.advances is.plan is.table is.handed (lent_stands c.args.self.run.value c.deref_mut.result.now is.plan is.table is.handed c.deref_mut.ensures.value is.stands) block) in
     let moved = c.orders_move_rows.ensures is.plan is.table on.0 on.2 in
     let lends = lent_lends c.advance.new.self c.deref-in-Ok-Done.result.now is.plan is.table c.deref-in-Ok-Done.ensures (ended on.4) in
-    subst (λ (rows : RowsOf). HaveSizesIn c.args.self.format c.counted-sizes-in-Ok-Done.result rows) (sym (c.finish-rows.ensures on.0 (lent_gives c.advance.new.self c.into_inner.result on.0 c.into_inner.ensures on.3)))
+    subst (λ (rows : RowsOf). HaveSizesIn c.args.self.format c.counted-sizes-in-Ok-Done.result rows) (sym (c.finish-rows.ensures on.0 (lent_gives c.advance.new.self c.into_inner.result on.0 c.into_inner.ensures on.3)).rows_are)
     (reordered_sizes c.args.self.format c.counted-sizes-in-Ok-Done.result moved.0 on.0 moved.2
     (c.counted-sizes-in-Ok-Done.ensures is.plan is.table moved.0 lends moved.1 (is.counted moved.0 moved.1)))
+
+pub answer_response-requires-clause-untaken : goal.answer_response-requires-clause-untaken
+answer_response-requires-clause-untaken c =
+    let is = c.requires.2 in
+    let block = block_is c.args.catalog.now c.tables.result.now c.args.self c.index-tables-self.result c.next_block-block.result c.requires.0 c.requires.1 is c.tables.ensures
+    c.index-tables-self.is
+    (lent_tells c.args.self.run.value c.deref.result.now c.index-tables-self.result c.next_block-block.result c.deref.ensures c.next_block-block.ensures) in
+    let on = advanced_done is.plan is.table is.handed _ _ c.in-Ok-Done.field-0-is
+    (c.in-Ok-Done.ensures.advances is.plan is.table is.handed (lent_stands c.args.self.run.value c.deref_mut.result.now is.plan is.table is.handed c.deref_mut.ensures.value is.stands) block) in
+    (c.finish-rows.ensures on.0 (lent_gives c.advance.new.self c.into_inner.result on.0 c.into_inner.ensures on.3)).untaken
 
 pub returns-in_ok-answer-in-Ok-Done-clause-reads : goal.returns-in_ok-answer-in-Ok-Done-clause-reads
 returns-in_ok-answer-in-Ok-Done-clause-reads c = λ asked left is.
@@ -77,8 +87,8 @@ returns-in_ok-answer-in-Ok-Done-clause-reads c = λ asked left is.
     (lent_tells c.args.self.run.value c.deref.result.now c.index-tables-self.result c.next_block-block.result c.deref.ensures c.next_block-block.ensures) in
     let on = advanced_done is.plan is.table is.handed _ _ c.in-Ok-Done.field-0-is
     (c.in-Ok-Done.ensures.advances is.plan is.table is.handed (lent_stands c.args.self.run.value c.deref_mut.result.now is.plan is.table is.handed c.deref_mut.ensures.value is.stands) block) in
-    let rows = c.finish-rows.ensures on.0 (lent_gives c.advance.new.self c.into_inner.result on.0 c.into_inner.ensures on.3) in
-    reads_last c.args.catalog.now asked left c.args.self _ (Some c.finish-rows.result) is on.1 (on.2 ∙ ap Some (sym rows)) c.in_ok-answer-in-Ok-Done.ensures.response
+    let rows = (c.finish-rows.ensures on.0 (lent_gives c.advance.new.self c.into_inner.result on.0 c.into_inner.ensures on.3)).rows_are in
+    reads_last c.args.catalog.now asked left c.args.self _ (Some c.finish-rows.result.rows) is on.1 (on.2 ∙ ap Some (sym rows)) c.in_ok-answer-in-Ok-Done.ensures.response
 
 pub returns-in_ok-error_response-in-Err-DivisionByZero-clause-reads : goal.returns-in_ok-error_response-in-Err-DivisionByZero-clause-reads
 returns-in_ok-error_response-in-Err-DivisionByZero-clause-reads c = λ asked left is.

@@ -1,10 +1,7 @@
-use Rattle.std.proofs.Common.{◌≡◌, ◌∙◌, [], false, length, map, option_map, ap, rules, subst, sym}
-use Rattle.std.specs.Prelude.{IfSome}
+use Rattle.std.proofs.Common.{◌≡◌, [], false, length, map, ap, rules}
 use Rattle.std.proofs.lemmas.Bool.{eqb-true}
 use Rattle.std.proofs.lemmas.List.{nil_from_length}
 use Rattle.query_plan.specs.Plan.{node_view}
-use Rattle.query_exec.specs.Kept.{IsWide}
-use Rattle.query_exec.specs.Sink.{unordered_rows}
 use Rattle.query_exec.proofs.FrontLemmas.{ended_front, reading_front}
 use Rattle.query_exec.proofs.run.Run.front.Goals as goal
 
@@ -19,8 +16,4 @@ pub returns-in-Ended : goal.returns-in-Ended
 returns-in-Ended c =
     let run = c.args.self.now in
     let none : map node_view run.steps.items ≡ [] = ap (map node_view) (nil_from_length run.steps.items (eqb-true (length run.steps.items) 0 (search rules))) in
-    let lent : option_map (λ k. k.now) c.as_ref.result ≡ run.unordered = search rules in
-    ended_front run c.in-Ended.rows c.unordered_front.result none c.in-Ended.is
-    (c.unordered_front.ensures.names ∙ ap (λ u. (unordered_rows c.in-Ended.rows u).names) lent)
-    (c.unordered_front.ensures.rows ∙ ap (λ u. (unordered_rows c.in-Ended.rows u).rows) lent)
-    (λ wide. c.unordered_front.ensures.width (subst (λ u. IfSome u IsWide) (sym lent) wide))
+    ended_front run c.in-Ended.rows c.stored_front.result none c.in-Ended.is c.stored_front.ensures.names c.stored_front.ensures.rows c.stored_front.ensures.width

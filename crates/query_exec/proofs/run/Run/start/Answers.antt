@@ -31,11 +31,11 @@ returns-clause-stands c = λ table schema rows summaries.
     let sink = c.in_ok-sink.sink in
     let kept_is : sink_kept sink ≡ kept = c.in_ok-sink.ensures.kept in
     let picked_is : kept_places (sink_kept sink) ≡ optional_numbers parts.places = ap kept_places kept_is ∙ c.in_ok-kept.ensures.places in
-    let steps_are : sink_nodes sink ++ map node_view c.in_ok-sink.steps.items ≡ map node_view parts.steps.items = c.in_ok-sink.ensures.nodes in
+    let steps_are : sink_nodes sink ++ map node_view c.of.new.steps.items ≡ map node_view parts.steps.items = c.in_ok-sink.ensures.nodes in
     record {
       read = record {
         plan_is =
-            ap (λ picked. condition_nodes es ++ select_nodes picked ++ (sink_nodes sink ++ map node_view c.in_ok-sink.steps.items)) picked_is
+            ap (λ picked. condition_nodes es ++ select_nodes picked ++ (sink_nodes sink ++ map node_view c.of.new.steps.items)) picked_is
             ∙ ap (λ steps. condition_nodes es ++ select_nodes (optional_numbers parts.places) ++ steps) steps_are ∙ sym c.in_ok-conditions.ensures.parts;
         conditions_are = c.in_ok-conditions.ensures.conditions;
         fits = subst (λ (s : SchemaOf). IsFitFor s (plan_view c.args.plan)) (sym schema) c.requires;
