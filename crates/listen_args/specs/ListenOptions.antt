@@ -32,9 +32,13 @@ with_numbers app = with_rule (with_rule (with_rule app (number_rule (codes "conn
 abbrev pub with_limits : App → App
 with_limits app = with_rule (with_rule app (number_rule (codes "query-seconds"))) (number_rule (codes "reply-seconds"))
 
+-- `[--most-groups N] [--most-ordered N]`
+abbrev pub with_bounds : App → App
+with_bounds app = with_rule (with_rule app (number_rule (codes "most-groups"))) (number_rule (codes "most-ordered"))
+
 -- the whole command
 abbrev pub listen_app : App
-listen_app = with_limits (with_numbers (with_flags (with_texts folder_and_port)))
+listen_app = with_bounds (with_limits (with_numbers (with_flags (with_texts folder_and_port))))
 
 -- the number of `bits` bits that the text is, or `other` if it is no such number
 abbrev pub ReadsNumberOr : ℕ → ℕ → Option Text → ℕ → Type 0
@@ -52,6 +56,8 @@ pub record AsksBy (words : ListenOptions) (rows : List Row) : Type 0 where
   pub idle_seconds : ReadsNumberOr IDLE_SECONDS 32 (one_of (codes "idle-seconds") rows) words.idle_seconds
   pub query_seconds : ReadsNumberOr QUERY_SECONDS 32 (one_of (codes "query-seconds") rows) words.query_seconds
   pub reply_seconds : ReadsNumberOr REPLY_SECONDS 32 (one_of (codes "reply-seconds") rows) words.reply_seconds
+  pub most_groups : ReadsNumberOr 0 32 (one_of (codes "most-groups") rows) words.most_groups
+  pub most_ordered : ReadsNumberOr 0 32 (one_of (codes "most-ordered") rows) words.most_ordered
   pub drain_file : option_map (λ file. file.now) words.drain_file ≡ first_of (codes "drain-file") rows
   pub plain_files : HasFlag (one_of (codes "plain-files") rows) words.plain_files
   pub log : HasFlag (one_of (codes "log") rows) words.log

@@ -37,7 +37,7 @@ pub const REPLY_SECONDS: u32 = 3_600;
 
 /// What is said of words that are no command.
 pub const USAGE_LINE: &str =
-    "bad command line; usage: odata_listen FOLDER (--port P [--address A] | --unix PATH | --socket-stdin) [--connections N] [--head-seconds S] [--idle-seconds S] [--query-seconds S] [--reply-seconds S] [--drain-file F] [--plain-files] [--log]";
+    "bad command line; usage: odata_listen FOLDER (--port P [--address A] | --unix PATH | --socket-stdin) [--connections N] [--head-seconds S] [--idle-seconds S] [--query-seconds S] [--reply-seconds S] [--most-groups N] [--most-ordered N] [--drain-file F] [--plain-files] [--log]";
 
 /// What help says of the program.
 const ABOUT: &str =
@@ -79,6 +79,12 @@ const QUERY_HELP: &str =
 const REPLY_HELP: &str =
     "The most seconds in which a peer may take a reply, 0 for no limit; without it 3600";
 
+/// What help says of `--most-groups`.
+const GROUPS_HELP: &str = "The most groups of a query, 0 for no limit; without it 0";
+
+/// What help says of `--most-ordered`.
+const ORDERED_HELP: &str = "The most rows that a query puts in order, 0 for no limit; without it 0";
+
 /// The numbers of the command line.
 pub fn sizes()
     ensures { ListenSizes }
@@ -100,6 +106,10 @@ pub struct ListenOptions<'a> {
     pub query_seconds: u32,
     /// 0 for no limit.
     pub reply_seconds: u32,
+    /// 0 for no limit.
+    pub most_groups: u32,
+    /// 0 for no limit.
+    pub most_ordered: u32,
     pub drain_file: Option<&'a str>,
     pub plain_files: bool,
     pub log: bool,
@@ -123,8 +133,10 @@ fn line_matches<'a>(alloc: Global, words: &'a [&'a str]) -> Result<ArgMatches<'a
     let head = add_number(alloc, places, "head-seconds", "S", HEAD_HELP);
     let idle = add_number(alloc, head, "idle-seconds", "S", IDLE_HELP);
     let query = add_number(alloc, idle, "query-seconds", "S", QUERY_HELP);
-    let whole = add_number(alloc, query, "reply-seconds", "S", REPLY_HELP);
-    matches_of(whole, words)
+    let reply = add_number(alloc, query, "reply-seconds", "S", REPLY_HELP);
+    let groups = add_number(alloc, reply, "most-groups", "N", GROUPS_HELP);
+    let ordered = add_number(alloc, groups, "most-ordered", "N", ORDERED_HELP);
+    matches_of(ordered, words)
 }
 
 /// Returns what the matches ask for.
@@ -145,6 +157,8 @@ fn matches_words<'a>(matches: &ArgMatches<'a>) -> Option<ListenOptions<'a>>
         idle_seconds: number(matches, "idle-seconds").unwrap_or(IDLE_SECONDS),
         query_seconds: number(matches, "query-seconds").unwrap_or(QUERY_SECONDS),
         reply_seconds: number(matches, "reply-seconds").unwrap_or(REPLY_SECONDS),
+        most_groups: number(matches, "most-groups").unwrap_or(0),
+        most_ordered: number(matches, "most-ordered").unwrap_or(0),
         drain_file: text(matches, "drain-file"),
         plain_files: flag(matches, "plain-files"),
         log: flag(matches, "log"),

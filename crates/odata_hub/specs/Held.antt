@@ -2,7 +2,9 @@
 use Rattle.std.specs.Prelude.{◌≡◌, ⊤, Option, Some, None}
 use Rattle.table_store.specs.Catalog.{CatalogOf}
 use Rattle.odata_http.specs.declared.lazy.LazyExchange.{LazyExchange}
-use Rattle.odata_http.specs.Lazy.{AnswersLazily}
+use Rattle.query_exec.specs.declared.run_kept.RunKept.{RunKept}
+use Rattle.query_exec.specs.declared.run_kept.RunKept.TheVariants.{Nothing}
+use Rattle.odata_http.specs.Lazy.{AnswersLazily, KeepsLazily}
 use Rattle.odata_hub.specs.Connections.{FlightOf}
 
 -- the exchange, and the tables that it goes on under
@@ -21,3 +23,8 @@ IsInFlight None None = ⊤
 IsInFlight None (Some f) = ⊥
 IsInFlight (Some held) None = ⊥
 IsInFlight (Some held) (Some f) = IsFlight held f
+
+-- what the run of the query in flight keeps; without one it is nothing
+abbrev pub FlightKeeps : Option FlightHeld → RunKept → Type 0
+FlightKeeps None kept = kept ≡ Nothing
+FlightKeeps (Some held) kept = KeepsLazily held.exchange kept

@@ -1,15 +1,17 @@
 -- What a connection and a hub stand for, and calls as steps of that.
-use Rattle.std.specs.Prelude.{◌≡◌, ⊤, ℕ, Bool, List, Option, Some, None, Result, Ok, Err}
+use Rattle.std.specs.Prelude.{◌≡◌, ⊤, ℕ, Bool, List, Option, Some, None, Result, Ok, Err, slice_get}
 use Rattle.std.specs.Borrow.{Bor}
 use Rattle.std.specs.List.{AllZip}
 use Rattle.table_store.specs.Catalog.{CatalogOf}
 use Rattle.http_heads.specs.Hopeless.{TellsHopeless}
+use Rattle.query_exec.specs.declared.run_kept.RunKept.{RunKept}
+use Rattle.query_exec.specs.declared.run_kept.RunKept.TheVariants.{Nothing}
 use Rattle.odata_hub.specs.declared.answers.HubFault.{HubFault}
 use Rattle.odata_hub.specs.declared.answers.HubFault.TheVariants.{NoSuchConnection}
 use Rattle.odata_hub.specs.declared.connection.Connection.{Connection}
 use Rattle.odata_hub.specs.declared.hub.Hub.{Hub}
 use Rattle.odata_hub.specs.Connections.{Answer, Call, ConnOf, FlightOf, Refused, Step, Take, answer_to, is_over}
-use Rattle.odata_hub.specs.Held.{IsInFlight}
+use Rattle.odata_hub.specs.Held.{FlightKeeps, IsInFlight}
 use Rattle.odata_http.specs.Waiting.{IsFront}
 use Rattle.odata_hub.specs.Schedules.{Event, HubOf, HubStep, On, conn_at}
 
@@ -72,6 +74,16 @@ TellsOver (Some c) result = result ≡ Ok (is_over c)
 abbrev pub TellsHopelessAt : Option ConnOf → Result Bool HubFault → Type 0
 TellsHopelessAt None result = result ≡ Err NoSuchConnection
 TellsHopelessAt (Some c) result = (told : Bool) × (result ≡ Ok told) × TellsHopeless c.rest told
+
+-- what the run of the query keeps that is in flight at a place
+abbrev pub PlaceKeeps : Option (Option Connection) → RunKept → Type 0
+PlaceKeeps (Some (Some connection)) kept = FlightKeeps connection.flight kept
+PlaceKeeps (Some None) kept = kept ≡ Nothing
+PlaceKeeps None kept = kept ≡ Nothing
+
+-- and at a place of a hub
+abbrev pub HubKeeps : Hub → ℕ → RunKept → Type 0
+HubKeeps hub place kept = PlaceKeeps (slice_get hub.places.items place) kept
 
 -- ---- output that is lent and then taken
 

@@ -2,7 +2,7 @@
 use crate::answers::{HubFault, Turned};
 use crate::flight::{Gone, InFlight, QueuedHead, cut_into};
 use http_heads::{Splitter, Unreadable};
-use odata_http::{Output, reply_to_rest};
+use odata_http::{Output, RunKept, reply_to_rest};
 use std::alloc::{AllocError, Global};
 use std::collections::VecDeque;
 use std::rc::Rc;
@@ -25,7 +25,7 @@ impl Connection {
     ghost use Rattle.http_heads.specs.Hopeless.{TellsHopeless};
     ghost use Rattle.odata_http.specs.Waiting.{IsFront};
     ghost use Rattle.odata_hub.specs.Connections.{ConnOf, Done, End, FlightOf, Gave, IsFailed, Piece, Take, Turn, Went, call_answer, fresh, is_over};
-    ghost use Rattle.odata_hub.specs.Held.{IsFlight, IsInFlight};
+    ghost use Rattle.odata_hub.specs.Held.{FlightKeeps, IsFlight, IsInFlight};
     ghost use Rattle.odata_hub.specs.Stands.{ConnStandsFor, IsConnStep, IsConnTook, conn_of};
     ghost use Rattle.odata_hub.specs.Work.{FoundWork, IsWorked, KeepsOutput};
 
@@ -212,6 +212,16 @@ impl Connection {
         ensures { IsConnTook self.old count self.new }
     {
         self.output.took(count);
+    }
+
+    /// Returns what the run of the query in flight keeps, if there is one.
+    pub(crate) fn kept(&self) -> RunKept
+        ensures { FlightKeeps self.now.flight result }
+    {
+        match &self.flight {
+            Some(flight) => flight.kept(),
+            None => RunKept::Nothing,
+        }
     }
 
     /// Returns true if a closing head was cut off, and all replies were taken: if memory ran out, one of them was never made.

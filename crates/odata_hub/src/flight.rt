@@ -1,6 +1,7 @@
 //! Heads that wait, and the exchange in flight.
 ghost use Rattle.std.specs.Prelude.{◌≡◌, ◌++◌, ◌≤◌, IfOk};
 ghost use Rattle.odata_http.specs.Answer.{AreSmall};
+ghost use Rattle.odata_http.specs.Lazy.{KeepsLazily};
 ghost use Rattle.odata_hub.specs.Connections.{FlightOf};
 ghost use Rattle.odata_hub.specs.Held.{IsFlight};
 ghost use Rattle.odata_hub.specs.Pieces.{IsCutInto};
@@ -8,7 +9,7 @@ ghost use Rattle.odata_hub.specs.Streams.{asked};
 ghost use Rattle.odata_hub.specs.Work.{BeginsFlight, GoesOnTo};
 
 use http_heads::{CheckedHead, Splitter};
-use odata_http::{LazyExchange, Reply, Step, cuts_are_small};
+use odata_http::{LazyExchange, Reply, RunKept, Step, cuts_are_small};
 use std::alloc::{AllocError, Global};
 use std::collections::VecDeque;
 use std::marker::Model;
@@ -88,6 +89,13 @@ impl InFlight {
             Step::More => Ok(Gone::On(InFlight { exchange, catalog })),
             Step::Done => Ok(Gone::Replied(exchange.reply())),
         }
+    }
+
+    /// Returns what the run of its query keeps, if one is under way.
+    pub(crate) fn kept(&self) -> RunKept
+        ensures { KeepsLazily self.now.exchange result }
+    {
+        self.exchange.kept()
     }
 }
 

@@ -4,9 +4,10 @@ ghost use Rattle.std.specs.Prelude.{◌<◌, ◌^◌, length};
 use crate::answers::{HubFault, Turned};
 use crate::connection::Connection;
 use crate::places::{
-    closed_at, end_at, first_free, free_at, hopeless_at, piece_at, put_at, take_at, took_at,
-    turn_at, waiting_at,
+    closed_at, end_at, first_free, free_at, hopeless_at, kept_at, piece_at, put_at, take_at,
+    took_at, turn_at, waiting_at,
 };
+use odata_http::RunKept;
 use std::alloc::{AllocError, Global};
 use std::rc::Rc;
 use table_store::Catalog;
@@ -28,7 +29,7 @@ impl Hub {
     ghost use Rattle.std.specs.Prelude.{◌≡◌, ◌≤◌, IfOk, None, OnErr, drop, length, replicate, take};
     ghost use Rattle.odata_hub.specs.Connections.{Done, End, Gave, Opened, Piece, Take, Turn, Went, call_answer};
     ghost use Rattle.odata_hub.specs.Schedules.{Drop, HubOf, On, Open, Reload, conn_at};
-    ghost use Rattle.odata_hub.specs.Stands.{IsHubStep, IsHubTook, LendsAt, Models, TellsHopelessAt, TellsOver, TellsTook, current_tables};
+    ghost use Rattle.odata_hub.specs.Stands.{IsHubStep, IsHubTook, HubKeeps, LendsAt, Models, TellsHopelessAt, TellsOver, TellsTook, current_tables};
 
     /// Creates a hub of `places` slots, all of them free, over these tables.
     pub fn new(alloc: Global, catalog: Rc<Catalog>, places: u32) -> Result<Hub, AllocError>
@@ -127,6 +128,13 @@ impl Hub {
         ensures { (h : HubOf) → Models self.now h → TellsOver (conn_at h conn.0) result }
     {
         closed_at(&self.places, conn.0)
+    }
+
+    /// Returns what the run of the query keeps that a connection has in flight: rows for an order, or groups. It is nothing without such a run.
+    pub fn kept(&self, conn: Conn) -> RunKept
+        ensures { HubKeeps self.now conn.0 result }
+    {
+        kept_at(&self.places, conn.0)
     }
 
     /// Returns whether what is left of a connection's stream can begin no head any more, whatever follows. To call `end` at once then gives the replies that every

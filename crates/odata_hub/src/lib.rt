@@ -11,3 +11,4 @@ mod places;
 
 pub use answers::{HubFault, Turned};
 pub use hub::{Conn, Hub};
+pub use odata_http::RunKept;

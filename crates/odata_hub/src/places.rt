@@ -1,13 +1,14 @@
 //! Calls on the connection at a place.
-ghost use Rattle.std.specs.Prelude.{◌≡◌, ◌<◌, ◌≤◌, IfOk, OnErr, drop, is_none, length, set, take};
+ghost use Rattle.std.specs.Prelude.{◌≡◌, ◌<◌, ◌≤◌, IfOk, OnErr, drop, is_none, length, set, slice_get, take};
 ghost use Rattle.std.specs.List.{position};
 ghost use Rattle.table_store.specs.Catalog.{CatalogOf};
 ghost use Rattle.odata_hub.specs.Connections.{Done, End, Gave, Piece, Take, Turn, Went, call_answer};
 ghost use Rattle.odata_hub.specs.Schedules.{Drop, HubOf, On, conn_at};
-ghost use Rattle.odata_hub.specs.Stands.{ArePlacesTook, AreHub, IsPlacesStep, LendsAt, TellsHopelessAt, TellsOver, TellsTook};
+ghost use Rattle.odata_hub.specs.Stands.{ArePlacesTook, AreHub, IsPlacesStep, LendsAt, PlaceKeeps, TellsHopelessAt, TellsOver, TellsTook};
 
 use crate::answers::{HubFault, Turned};
 use crate::connection::Connection;
+use odata_http::RunKept;
 use std::alloc::Global;
 use std::rc::Rc;
 use table_store::Catalog;
@@ -180,6 +181,16 @@ pub(crate) fn closed_at(places: &[Option<Connection>], place: u32) -> Result<boo
     match &places[place] {
         Some(connection) => Ok(connection.closed()),
         None => Err(HubFault::NoSuchConnection),
+    }
+}
+
+/// Returns what the run of the query keeps that the connection at a place has in flight.
+pub(crate) fn kept_at(places: &[Option<Connection>], place: u32) -> RunKept
+    ensures { PlaceKeeps (slice_get places.now place) result }
+{
+    match places.get(place as usize) {
+        Some(Some(connection)) => connection.kept(),
+        Some(None) | None => RunKept::Nothing,
     }
 }
 

@@ -7,6 +7,7 @@ ghost use Rattle.odata_listen.specs.Command.{IsLineStatus, IsServedStatus, IsSta
 
 use crate::drain::Drain;
 use crate::folder::Folder;
+use crate::limits::KeptLimits;
 use crate::serving::{Service, serve};
 use cli_args::{ArgsFault, line_of, system_words};
 use exit_statuses::{DEVICE, DONE, MEMORY, ProgramFault, USAGE, error_status, report};
@@ -120,6 +121,17 @@ fn most_seconds(seconds: u32) -> u32
     if seconds == 0 { u32::MAX } else { seconds }
 }
 
+/// Returns the most rows or groups that a query keeps: 0 on the command line is no limit.
+fn most_kept(count: u32) -> u64
+    ensures { result ≡ (if count == 0 then 2 ^ 64 - 1 else count) }
+{
+    if count == 0 {
+        u64::MAX
+    } else {
+        u64::from(count)
+    }
+}
+
 /// Says where it listens, and serves.
 fn listen(
     rt: &HostRuntime,
@@ -137,9 +149,14 @@ fn listen(
         query: words.query_seconds,
         reply: most_seconds(words.reply_seconds),
     };
+    let kept = KeptLimits {
+        ordered: most_kept(words.most_ordered),
+        groups: most_kept(words.most_groups),
+    };
     let mut service = Service {
         folder,
         limits,
+        kept,
         log: Log::new(rt, words.log),
         drain: Drain::new(words.drain_file),
     };

@@ -2,10 +2,13 @@
 //! end before their peers end them: those that can bring no head any more, and those whose heads take too long.
 ghost use Rattle.std.specs.Prelude.{◌≡◌};
 ghost use Rattle.listen_sockets.specs.Server.{state_at};
+ghost use Rattle.odata_listen.specs.Limits.{EndsOver};
 ghost use Rattle.odata_listen.specs.Serving.{CountsSent, CountsWork, DoesDue, EndsSlow, Frees, Notes, RunsOn, Settles};
 
+use crate::limits::KeptLimits;
 use listen_sockets::{Due, Poller, Server, TimeLimits};
 use mio::Poll;
+use odata_hub::Conn;
 use odata_rounds::SlotState;
 use service_log::{CloseReason, Log};
 
@@ -54,6 +57,17 @@ pub fn settle(server: &mut Server, place: u32, poller: &Poller, log: &mut Log<'_
         SlotState::Lost => end(server, place, CloseReason::Lost, log),
         SlotState::Failed => end(server, place, CloseReason::NoMemory, log),
     }
+}
+
+/// Frees a place whose query keeps more than it may, and reports that it takes too long.
+pub fn end_over(server: &mut Server, place: u32, limits: &KeptLimits, log: &mut Log<'_>)
+    ensures ends { EndsOver limits.now place server.old server.new }
+    ensures work { log.new.tally.work ≡ log.old.tally.work }
+{
+    if !limits.are_passed(server.hub.kept(Conn(place))) {
+        return;
+    }
+    end(server, place, CloseReason::TooLong, log);
 }
 
 /// Does what is due of the connection at a place: ends the stream of a peer whose head takes too long, and drops one that stands still or takes too little, or

@@ -6,6 +6,7 @@ mod command;
 mod drain;
 mod endings;
 mod folder;
+mod limits;
 mod serving;
 mod stopwatch;
 mod turns;

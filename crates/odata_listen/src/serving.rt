@@ -5,6 +5,7 @@ ghost use Rattle.odata_listen.specs.Serving.{RunsOn, TakesAccepted, TakesPeerIn}
 use crate::drain::Drain;
 use crate::endings::{Moment, end_all_slow};
 use crate::folder::Folder;
+use crate::limits::{KeptLimits, Terms};
 use crate::stopwatch::Stopwatch;
 use crate::turns::{Circle, Circles, run_round};
 use listen_args::MOST_PLACES;
@@ -17,11 +18,12 @@ use socket_listener::ListeningSocket;
 use std::io::{self, ErrorKind};
 use std::rt::{Clock, Files};
 
-/// What the service has beside its places and sockets: the folder that it serves, how long a peer may take, and its log.
+/// What the service has beside its places and sockets: the folder that it serves, how long a peer may take, how much a query may keep, and its log.
 #[derive(Drop)]
 pub struct Service<'a> {
     pub folder: Folder<'a>,
     pub limits: TimeLimits,
+    pub kept: KeptLimits,
     pub log: Log<'a>,
     pub drain: Drain<'a>,
 }
@@ -171,7 +173,11 @@ fn tick(
     poller.wait(rt, &mut server.sockets, course.busy)?;
     let is_new = poller.is_new_second();
     let watch = &mut course.watch;
-    let busy = run_round(watch, server, poller, &mut service.log, &mut course.circles);
+    let terms = Terms {
+        poller,
+        kept: service.kept,
+    };
+    let busy = run_round(watch, server, &terms, &mut service.log, &mut course.circles);
     load_on(rt, server, service);
     tend(rt, server, service, poller, is_new);
     let took = accept(server, poller, &mut service.log);

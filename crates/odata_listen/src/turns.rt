@@ -3,9 +3,10 @@
 ghost use Rattle.std.specs.Prelude.{◌≡◌, ◌-◌, ◌<◌, ◌^◌, false, true};
 ghost use Rattle.odata_listen.specs.Turns.{Charges, GoesRound, HasTurn, HasTurnOf, IsRound, IsVisited, TookTurn, HadTurns, Visited, left_of, served, turn_at};
 
-use crate::endings::{end, settle};
+use crate::endings::{end, end_over, settle};
+use crate::limits::Terms;
 use crate::stopwatch::Stopwatch;
-use listen_sockets::{Poller, Server};
+use listen_sockets::Server;
 use odata_rounds::SlotState;
 use service_log::{CloseReason, Log};
 
@@ -51,21 +52,22 @@ fn charge(server: &mut Server, place: u32, micros: u64, log: &mut Log<'_>)
     log.tally.work.charge(micros);
 }
 
-/// Visits `place` once, and settles what became of it. Returns whether something was done.
+/// Visits `place` once, settles what became of it, and ends a query that keeps too much. Returns whether something was done.
 fn visit(
     watch: &mut Stopwatch<'_>,
     server: &mut Server,
-    poller: &Poller,
+    terms: &Terms<'_>,
     place: u32,
     log: &mut Log<'_>,
 ) -> bool
-    ensures { Visited poller.now.second place
+    ensures { Visited terms.now place
         (served server.old log.old) (served server.new log.new) }
 {
     server.visit(place);
     charge(server, place, watch.lap(), log);
     let worked = server.state(place) == SlotState::Worked;
-    settle(server, place, poller, log);
+    settle(server, place, terms.poller, log);
+    end_over(server, place, &terms.kept, log);
     worked
 }
 
@@ -73,15 +75,15 @@ fn visit(
 fn visit_on(
     watch: &mut Stopwatch<'_>,
     server: &mut Server,
-    poller: &Poller,
+    terms: &Terms<'_>,
     place: u32,
     log: &mut Log<'_>,
 ) -> bool
-    ensures { IsVisited poller.now.second place
+    ensures { IsVisited terms.now place
         (served server.old log.old) (served server.new log.new) }
 {
     for _visit in 0..VISITS {
-        if !visit(watch, server, poller, place, log) {
+        if !visit(watch, server, terms, place, log) {
             return false;
         }
         if watch.is_over() {
@@ -96,11 +98,11 @@ fn visit_on(
 fn serve_place(
     watch: &mut Stopwatch<'_>,
     server: &mut Server,
-    poller: &Poller,
+    terms: &Terms<'_>,
     place: u32,
     log: &mut Log<'_>,
 ) -> bool
-    ensures { HasTurn poller.now.second place
+    ensures { HasTurn terms.now place
         (served server.old log.old) (served server.new log.new) }
 {
     if !server.sockets.is_awake(place) {
@@ -110,7 +112,7 @@ fn serve_place(
         end(server, place, CloseReason::Lost, log);
         return false;
     }
-    let more = visit_on(watch, server, poller, place, log);
+    let more = visit_on(watch, server, terms, place, log);
     log.tally.work.end_turn();
     more
 }
@@ -134,11 +136,11 @@ fn left_of(places: u32, left: u32) -> u32
 fn take_turn(
     watch: &mut Stopwatch<'_>,
     server: &mut Server,
-    poller: &Poller,
+    terms: &Terms<'_>,
     log: &mut Log<'_>,
     circle: &mut Circle,
 )
-    ensures turn { HasTurnOf circle.old.heavy poller.now.second
+    ensures turn { HasTurnOf circle.old.heavy terms.now
         (turn_at circle.old.places circle.old.next)
         (served server.old log.old) (served server.new log.new) }
     ensures circle { TookTurn circle.old circle.new }
@@ -149,24 +151,24 @@ fn take_turn(
     if server.sockets.is_heavy(place) != circle.heavy {
         return;
     }
-    circle.busy |= serve_place(watch, server, poller, place, log);
+    circle.busy |= serve_place(watch, server, terms, place, log);
 }
 
 /// Gives the places of `circle` their turns, from if it was left, until all had theirs or the time of a round is over.
 fn go_round(
     watch: &mut Stopwatch<'_>,
     server: &mut Server,
-    poller: &Poller,
+    terms: &Terms<'_>,
     log: &mut Log<'_>,
     circle: &mut Circle,
 )
-    ensures { GoesRound poller.now.second circle.old circle.new
+    ensures { GoesRound terms.now circle.old circle.new
         (served server.old log.old) (served server.new log.new) }
 {
     circle.busy &= circle.left > 0;
     circle.left = left_of(circle.places, circle.left);
     for _turn in 0..circle.left {
-        take_turn(watch, server, poller, log, circle);
+        take_turn(watch, server, terms, log, circle);
         if watch.is_over() {
             return;
         }
@@ -198,21 +200,21 @@ fn has_more(circles: &Circles) -> bool
 pub fn run_round(
     watch: &mut Stopwatch<'_>,
     server: &mut Server,
-    poller: &Poller,
+    terms: &Terms<'_>,
     log: &mut Log<'_>,
     circles: &mut Circles,
 ) -> bool
-    ensures round { IsRound poller.now.second circles.old circles.new
+    ensures round { IsRound terms.now circles.old circles.new
         (served server.old log.old) (served server.new log.new) }
     ensures whole { result ≡ false → HadTurns circles.old × HadTurns circles.new }
 {
     let was_whole = is_whole(circles);
     watch.begin();
-    go_round(watch, server, poller, log, &mut circles.light);
+    go_round(watch, server, terms, log, &mut circles.light);
     if circles.light.left > 0 {
         return true;
     }
-    go_round(watch, server, poller, log, &mut circles.heavy);
+    go_round(watch, server, terms, log, &mut circles.heavy);
     // a place that had its turn before this round may have been woken since then
     if !was_whole {
         return true;

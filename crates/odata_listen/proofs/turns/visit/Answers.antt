@@ -7,6 +7,9 @@ returns c = record {
   visit = c.visit.ensures.visit;
   charged = served c.charge.new.server c.charge.new.log;
   charge = c.charge.ensures;
+  settled = served c.settle.new.server c.settle.new.log;
   settles = c.settle.ensures.settles;
   work = c.settle.ensures.work;
+  ends = c.end_over.ensures.ends;
+  still = c.end_over.ensures.work;
 }
