@@ -8,6 +8,7 @@ pub mod IntegerLemmas
 pub mod ShortIntegers
 pub mod DateLemmas
 pub mod DecimalLemmas
+pub mod ShortDecimals
 pub mod DecimalTexts
 pub mod PlainLemmas
 pub mod CodePoints

@@ -1,24 +1,26 @@
 -- Texts that say their value as they stand.
-use Rattle.std.proofs.Common.{◌≡◌, ℕ, ℤ, zero, suc, ◌+◌, ◌/◌, ◌%◌, ◌<◌, ◌≤◌, Bool, true, false, not, cond, Ok, Err, Result, FitsSigned, w64, List, [], ◌∷◌, ◌++◌, arith, length, get_or, take, drop, refl, sym, ap, subst, ◌∙◌}
-use Rattle.std.specs.Prelude.{if◌then◌else◌, slice_index, ◌==◌}
+use Rattle.std.proofs.Common.{◌≡◌, ◌⊎◌, inl, inr, ◌||◌, ℕ, ℤ, zero, suc, ◌+◌, ◌/◌, ◌%◌, ◌<◌, ◌≤◌, Bool, true, false, not, cond, Ok, Err, Result, FitsSigned, w64, List, [], ◌∷◌, ◌++◌, arith, length, get_or, take, drop, refl, sym, ap, subst, ◌∙◌}
+use Rattle.std.specs.Prelude.{codes, if◌then◌else◌, slice_index, ◌==◌}
 use Rattle.std.specs.Char.{is_ascii_digit}
-use Rattle.std.specs.List.{after_first, before_first, position_or_len}
-use Rattle.std.specs.Str.{all_ascii_digits}
+use Rattle.std.specs.List.{after_first, before_first, list_any, position_or_len}
+use Rattle.std.specs.Str.{all_ascii_digits, bytes_eq}
 use Rattle.std.specs.Str.Parse.{AllDigits, starts_with_minus, without_leading_plus, without_leading_sign}
-use Rattle.std.proofs.lemmas.Bool.{and_from, and_parts, cond-false, cond_both, eqb-true, ne_eqb}
+use Rattle.std.proofs.lemmas.Bool.{and_from, and_parts, cond-false, cond_both, eqb-true, ne_eqb, or_cases}
+use Rattle.std.proofs.lemmas.Slice.Eq.{bytes_eq-Decides}
 use Rattle.std.proofs.lemmas.Str.Parse.{digit_at}
 use Rattle.cell_types.specs.declared.fault.CellFault.{CellFault}
-use Rattle.cell_types.specs.declared.fault.CellFault.TheVariants.{NotDecimal}
+use Rattle.cell_types.specs.declared.fault.CellFault.TheVariants.{NotBoolean, NotDecimal}
+use Rattle.cell_types.specs.declared.datatype.BooleanForm.TheVariants.{Standard}
 use Rattle.cell_types.specs.declared.datatype.DateForm.{DateForm}
 use Rattle.cell_types.specs.declared.datatype.DateForm.TheVariants.{YearMonthDay, Compact, DayMonthYear, MonthDayYear, Dotted}
 use Rattle.cell_types.specs.Cell.{SaysPlainly, content_of, content_value, is_null_text, null_reading, text_or_default, typed_value, value_of}
 use Rattle.cell_types.specs.Column.{ColumnOf}
 use Rattle.cell_types.specs.Datatype as datatype
-use Rattle.cell_types.specs.Datatype.{DatatypeOf}
+use Rattle.cell_types.specs.Datatype.{DatatypeOf, boolean_view}
 use Rattle.cell_types.specs.Date.{HasDate, HasNoDate, date_text, four_digits, laid_out, two_digits}
 use Rattle.cell_types.specs.Decimal.{decimal_of, fraction_part, is_decimal, is_point, whole_part}
-use Rattle.cell_types.specs.Value.{CellValue, date, decimal}
-use Rattle.cell_types.specs.WhiteSpace.{normal_text}
+use Rattle.cell_types.specs.Value.{CellValue, boolean, date, decimal}
+use Rattle.cell_types.specs.WhiteSpace.{normal_text, words}
 use Rattle.cell_types.proofs.DateLemmas.{date_of-none, date_of-text}
 use Rattle.cell_types.proofs.DecimalLemmas.{both_parts, decimal-not, decimal_of-only}
 use Rattle.cell_types.proofs.DigitLaws.{digits_model}
@@ -169,3 +171,35 @@ plain-value column bytes v (some, normal, null, read) =
     ap (content_value column) (content-normal column.datatype bytes normal)
     ∙ ap (λ text. if is_null_text column text then null_reading column else typed_value column.datatype text) content
     ∙ cond-false _ _ _ null ∙ read
+
+-- ---- booleans
+
+-- a text of which white space is no part
+abbrev IsNormal : List ℕ → Type 0
+IsNormal bytes = (0 < length bytes) × (normal_text bytes ≡ bytes)
+
+same-normal : (other bytes : List ℕ) → IsNormal other → bytes_eq other bytes ≡ true → IsNormal bytes
+same-normal other bytes normal same = subst IsNormal ((bytes_eq-Decides other bytes).0 same) normal
+
+one_of_two : (p q bytes : List ℕ) → IsNormal p → IsNormal q → list_any (λ other. bytes_eq other bytes) (p ∷ q ∷ []) ≡ true → IsNormal bytes
+one_of_two p q bytes first second any = by (or_cases (bytes_eq p bytes) (bytes_eq q bytes || false) any)
+  where
+    last : (bytes_eq q bytes ≡ true) ⊎ (false ≡ true) → IsNormal bytes
+    last (inl same) = same-normal q bytes second same
+    last (inr wrong) = absurd (cc)
+
+    by : (bytes_eq p bytes ≡ true) ⊎ ((bytes_eq q bytes || false) ≡ true) → IsNormal bytes
+    by (inl same) = same-normal p bytes first same
+    by (inr rest) = last (or_cases (bytes_eq q bytes) false rest)
+
+-- the texts that need no format have no white space
+pub standard-normal : (bytes : List ℕ) (truth : Bool) → typed_value (boolean_view Standard) bytes ≡ Ok (boolean truth) → IsNormal bytes
+unfolding normal_text words
+standard-normal bytes truth =
+    let is_true = list_any (λ other. bytes_eq other bytes) (codes "true" ∷ codes "1" ∷ []) in
+    let is_false = list_any (λ other. bytes_eq other bytes) (codes "false" ∷ codes "0" ∷ []) in
+    let Here : Result CellValue CellFault → Type 0 = λ r. r ≡ Ok (boolean truth) → IsNormal bytes in
+    cond_both is_true (Ok (boolean true)) (cond is_false (Ok (boolean false)) (Err NotBoolean)) Here
+    (λ t _. one_of_two (codes "true") (codes "1") bytes (omega arith, refl) (omega arith, refl) t)
+    (λ _. cond_both is_false (Ok (boolean false)) (Err NotBoolean) Here
+    (λ f _. one_of_two (codes "false") (codes "0") bytes (omega arith, refl) (omega arith, refl) f) (λ _ e. absurd (cc)))

@@ -1,9 +1,9 @@
 -- Integers of few digits, read digit by digit.
-use Rattle.std.proofs.Common.{◌≡◌, ℕ, zero, suc, ◌+◌, ◌*◌, ◌^◌, ◌<◌, ◌≤◌, true, false, List, [], ◌∷◌, Ok, FitsSigned, w64, arith, length, get_or, take, drop, refl, sym, ap, ◌∙◌}
-use Rattle.std.specs.Prelude.{ℤ, pos, neg_ℤ, ◌==◌, if◌then◌else◌, slice_index}
+use Rattle.std.proofs.Common.{◌≡◌, ℕ, zero, suc, ◌+◌, ◌*◌, ◌^◌, ◌<◌, ◌≤◌, true, false, List, [], ◌∷◌, Ok, FitsSigned, w64, arith, length, get_or, take, drop, refl, ap, ◌∙◌}
+use Rattle.std.specs.Prelude.{pos, neg_ℤ, ◌==◌, if◌then◌else◌, slice_index}
 use Rattle.std.specs.Str.Parse.{AllDigits, IsNumeral, digits_value, signed_digits_value, starts_with_minus, without_leading_plus, without_leading_sign}
 use Rattle.std.proofs.lemmas.List.{length-take}
-use Rattle.std.proofs.lemmas.Bool.{eqb-true, false_from_ne_true, ne_eqb, cond-true, cond-false, cond_both}
+use Rattle.std.proofs.lemmas.Bool.{eqb-true, false_from_ne_true, ne_eqb, cond-false, cond_both}
 use Rattle.std.proofs.lemmas.Bool.Decides.{nat_tests}
 use Rattle.std.proofs.lemmas.Str.{digit_value_digit}
 use Rattle.std.proofs.lemmas.Str.Parse.{IsNumeralModel, numerals_by_value, tells_digits, digits_value_short, digit_at}
@@ -17,7 +17,7 @@ use Rattle.cell_types.specs.WhiteSpace.{is_white, normal_text}
 use Rattle.cell_types.proofs.IntegerLemmas.{integer-parsed, is_integer-numeral}
 use Rattle.cell_types.proofs.WhiteSpaceLemmas.{is_spaced, normal-spaced}
 
-abbrev model : IsNumeralModel (AllDigits 10) (digits_value 10)
+abbrev pub model : IsNumeralModel (AllDigits 10) (digits_value 10)
 model = numerals_by_value (AllDigits 10) tells_digits
 
 -- another digit still fits
@@ -39,12 +39,6 @@ pub no_digit : (ds : List ℕ) (i : ℕ) → i < length ds → (48 ≤ get_or ds
 no_digit ds i lt other numeral = let r = digit_at ds i numeral.1 lt in other r.0 r.1
 
 -- ---- with a sign
-pub value-plain : (bytes ds : List ℕ) (z : ℤ) → ds ≡ without_leading_sign bytes → z ≡ pos (digits_value 10 ds) → starts_with_minus bytes ≡ false → z ≡ signed_digits_value 10 bytes
-value-plain bytes ds z is value plain = value ∙ ap (λ xs. pos (digits_value 10 xs)) is ∙ sym (cond-false _ _ _ plain)
-
-pub value-minus : (bytes ds : List ℕ) (z : ℤ) → ds ≡ without_leading_sign bytes → z ≡ neg_ℤ (pos (digits_value 10 ds)) → starts_with_minus bytes ≡ true → z ≡ signed_digits_value 10 bytes
-value-minus bytes ds z is value minus = value ∙ ap (λ xs. neg_ℤ (pos (digits_value 10 xs))) is ∙ sym (cond-true _ _ _ minus)
-
 fits-pos : (n : ℕ) → n < 10 ^ 18 → FitsSigned w64 (pos n)
 fits-pos n below = record { sfits = omega (arith, below) }
 

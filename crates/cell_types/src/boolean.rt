@@ -9,6 +9,7 @@ use crate::fault::CellFault;
 use crate::value::Value;
 
 /// Returns the boolean of a text, or `None` if the text is none of those of true and false.
+#[inline(always)]
 pub fn truth_of(form: &BooleanForm, text: &str) -> Option<bool>
     ensures { truth_reading result ≡ typed_value (boolean_view form.now) text.now }
 {

@@ -23,14 +23,24 @@ use crate::white_space::{is_normal, normal_copy};
 use std::alloc::Global;
 use std::borrow::CowStr;
 
+/// Returns true if two texts are the same. Where their lengths differ, no byte is compared.
+#[inline(always)]
+fn are_same(one: &str, other: &str) -> bool
+    ensures { result ≡ bytes_eq one.now other.now }
+{
+    one.len() == other.len() && one == other
+}
+
 /// Returns true if a text is among some.
+#[inline(always)]
 fn is_among(texts: &[String], text: &str) -> bool
     ensures { result ≡ list_any (λ other. bytes_eq (string_bytes other) text.now) texts.now }
 {
-    texts.iter().any(|other| other.as_str() == text)
+    texts.iter().any(|other| are_same(other.as_str(), text))
 }
 
 /// Returns true if a text stands for null in a column.
+#[inline(always)]
 pub fn is_null_text(column: &Column, text: &str) -> bool
     ensures { result ≡ is_null_text_of (column_view column.now) text.now }
 {
@@ -125,6 +135,7 @@ pub fn string_of<'a>(column: &'a Column, text: CowStr<'a>) -> Option<CowStr<'a>>
 
 /// Returns the number of a sign and at most eighteen digits in a column of integers, if they don't stand for null; none of another text. They are read in
 /// one pass.
+#[inline(always)]
 pub fn read_short_integer(column: &Column, text: &str) -> Option<i64>
     requires { datatype_view column.now.datatype ≡ datatype.integer }
     ensures number { SomeIff result (IsShortInteger text.now

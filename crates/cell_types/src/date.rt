@@ -10,6 +10,7 @@ use crate::value::Value;
 use jiff_core::civil::Date;
 
 /// Returns the digits of the year, the month and the day in a text of a form.
+#[inline(always)]
 fn parts(form: DateForm, text: &[u8]) -> Option<([u8; 4], [u8; 2], [u8; 2])>
     ensures { MatchOption result (HasNoParts form text.now)
         (λ p. HasParts form text.now p.0 p.1 p.2) }
@@ -29,6 +30,7 @@ fn parts(form: DateForm, text: &[u8]) -> Option<([u8; 4], [u8; 2], [u8; 2])>
 }
 
 /// Returns the number that two digits write.
+#[inline(always)]
 fn two_digit_number(digits: [u8; 2]) -> Option<u8>
     ensures { MatchOption result ((n : ℕ) → n < 100 → digits ≢ two_digits n) (λ n. (n < 100)
         × (digits ≡ two_digits n)) }
@@ -42,6 +44,7 @@ fn two_digit_number(digits: [u8; 2]) -> Option<u8>
 }
 
 /// Returns the number that four digits write.
+#[inline(always)]
 fn four_digit_number(digits: [u8; 4]) -> Option<u16>
     ensures { MatchOption result ((n : ℕ) → n < 10_000 → digits ≢ four_digits n) (λ n. (n < 10_000)
         × (digits ≡ four_digits n)) }
@@ -53,6 +56,7 @@ fn four_digit_number(digits: [u8; 4]) -> Option<u16>
 }
 
 /// Returns the year, the month and the day that a text writes in a form, whether the calendar has them or not.
+#[inline(always)]
 fn numbers(form: DateForm, text: &[u8]) -> Option<(u16, u8, u8)>
     ensures { MatchOption result (HasNoNumbers form text.now)
         (λ p. HasDateNumbers form text.now p.0 p.1 p.2) }
@@ -65,6 +69,7 @@ fn numbers(form: DateForm, text: &[u8]) -> Option<(u16, u8, u8)>
 }
 
 /// Returns the day that a text writes in a form.
+#[inline(always)]
 pub fn date_in(form: DateForm, text: &str) -> Option<Date>
     ensures { MatchOption result (HasNoDate form text.now)
         (λ date. HasDate form text.now date.year date.month date.day) }

@@ -1,10 +1,11 @@
 //! Integers (Metadata Vocabulary for Tabular Data, section 5.11.2): an optional sign and one or more digits, in 64 signed bits. One of at most
 //! eighteen digits is read in one pass, in which no sum can leave 64 bits.
-ghost use Rattle.std.specs.Prelude.{◌≡◌, ◌≤◌, length, pos, SomeIff};
+ghost use Rattle.std.specs.Prelude.{◌≡◌, ◌^◌, ◌<◌, ◌≤◌, length, SomeIff};
 ghost use Rattle.std.specs.Char.{is_ascii_digit};
 ghost use Rattle.std.specs.List.{list_all};
 ghost use Rattle.std.specs.Str.Parse.{IsNumeral, digits_value, signed_digits_value, starts_with_minus, without_leading_sign};
 ghost use Rattle.cell_types.specs.Cell.{reading_view};
+ghost use Rattle.cell_types.specs.Decimal.{signed};
 ghost use Rattle.cell_types.specs.Integer.{integer_of, is_integer as is_integer_text, IsShortInteger};
 
 use crate::fault::CellFault;
@@ -49,9 +50,9 @@ fn is_integer(text: &str) -> bool
 
 /// Returns the number that a few digits write.
 #[inline(always)]
-fn short_value(digits: &[u8]) -> Option<i64>
+pub fn short_value(digits: &[u8]) -> Option<u64>
     requires { length digits.now ≤ SHORT }
-    ensures { SomeIff result (IsNumeral 10 digits.now) (pos (digits_value 10 digits.now)) }
+    ensures { SomeIff result (IsNumeral 10 digits.now) (digits_value 10 digits.now) }
 {
     if digits.is_empty() {
         return None;
@@ -64,7 +65,17 @@ fn short_value(digits: &[u8]) -> Option<i64>
         }
         value = value * 10 + u64::from(digit);
     }
-    Some(value as i64)
+    Some(value)
+}
+
+/// Returns a number of at most 63 bits, or the negative one.
+#[inline(always)]
+pub fn with_sign(is_negative: bool, number: u64) -> i64
+    requires { number < 2 ^ 63 }
+    ensures { result ≡ signed is_negative number }
+{
+    let number = number as i64;
+    if is_negative { -number } else { number }
 }
 
 /// Returns the number that a sign and a few digits write; none of another text.
@@ -77,10 +88,8 @@ pub fn short_integer(text: &str) -> Option<i64>
     if digits.len() > SHORT {
         return None;
     }
-    match short_value(digits) {
-        Some(value) => Some(if is_negative(bytes) { -value } else { value }),
-        None => None,
-    }
+    let value = short_value(digits)?;
+    Some(with_sign(is_negative(bytes), value))
 }
 
 /// Returns the number that a text writes.

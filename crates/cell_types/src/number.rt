@@ -82,7 +82,31 @@ fn plain_number(column: &Column, kind: NumberKind, text: &str) -> Option<i64>
 }
 
 /// Returns the number of a text in a column that is none of texts, or null if the text is null.
+#[inline(always)]
 pub fn read_number(
+    alloc: Global,
+    column: &Column,
+    kind: NumberKind,
+    text: &str,
+) -> Result<Option<i64>, CellFault>
+    requires { kind_of (datatype_view column.now.datatype) ≡ Number kind }
+    ensures value { IfOk result
+        (λ number. value_of (column_view column.now) text.now ≡ Ok (cell_of kind number)) }
+    ensures number { IfOk result (λ number. ForSome number (IsNumberOf kind)) }
+    ensures fault { IfErr result (λ e. (e ≡ CellFault.NoMemory)
+        ⊎ (value_of (column_view column.now) text.now ≡ Err e)) }
+    ensures memory { IsErrOf result CellFault.NoMemory
+        → NeedsMemory (column_view column.now) text.now }
+{
+    if let Some(number) = plain_number(column, kind, text) {
+        return Ok(Some(number));
+    }
+    read_other_number(alloc, column, kind, text)
+}
+
+/// Does what [`read_number`] does, and is called for texts that say no value as they stand.
+#[inline(never)]
+fn read_other_number(
     alloc: Global,
     column: &Column,
     kind: NumberKind,
@@ -99,9 +123,6 @@ pub fn read_number(
 {
     values_fit_columns();
     dates_read_back();
-    if let Some(number) = plain_number(column, kind, text) {
-        return Ok(Some(number));
-    }
     match read_cell(alloc, column, text) {
         Ok(value) => Ok(number_of_value(kind, &value)),
         Err(fault) => Err(fault),

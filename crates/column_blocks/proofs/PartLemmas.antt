@@ -1,6 +1,6 @@
 -- The cells of a column of rows, read one row after another.
-use Rattle.std.proofs.Common.{◌≡◌, ◌⊎◌, inl, inr, ◌==◌, true, false, ℕ, zero, suc, ◌+◌, List, [], ◌∷◌, ◌++◌, append_assoc, length, take, Some, Ok, Err, IfSome, refl, ap, sym, subst, ◌∙◌, arith}
-use Rattle.std.proofs.lemmas.Bool.{ne_eqb}
+use Rattle.std.proofs.Common.{◌≡◌, ◌⊎◌, inl, inr, ◌==◌, Bool, true, false, ℕ, zero, suc, ◌+◌, List, [], ◌∷◌, ◌++◌, append_assoc, length, take, Some, Ok, Err, IfSome, refl, ap, sym, subst, ◌∙◌, arith}
+use Rattle.std.proofs.lemmas.Bool.{eqb-true, ne_eqb}
 use Rattle.std.proofs.lemmas.List.{length-map}
 use Rattle.std.specs.List.{slice_get}
 use Rattle.cell_types.specs.declared.fault.CellFault.{CellFault}
@@ -8,7 +8,9 @@ use Rattle.cell_types.specs.declared.fault.CellFault.TheVariants.{NoMemory}
 use Rattle.cell_types.specs.Cell.{value_of}
 use Rattle.cell_types.specs.Column.{ColumnOf}
 use Rattle.cell_types.specs.Datatype as datatype
-use Rattle.cell_types.specs.Value.{CellValue}
+use Rattle.cell_types.specs.Datatype.{DatatypeOf}
+use Rattle.cell_types.specs.Value.{CellValue, null}
+use Rattle.cell_types.specs.WhiteSpace.{normal_text, words}
 use Rattle.csv_fields.specs.Rows.{cell_at}
 use Rattle.csv_grammar.specs.Raw.{RawField, raw_content}
 use Rattle.csv_fields.specs.Values.{value_in, value_or_null, HasValue}
@@ -62,3 +64,29 @@ text_value column (byte ∷ bytes) kind plain =
 
 pub plain_value : (column : ColumnOf) (raw : RawField) → column.datatype ≡ datatype.text → EmptyIsNull column → value_in (column, raw) ≡ Ok (content_cell true (raw_content raw))
 plain_value column raw kind plain = text_value column (raw_content raw) kind plain
+
+-- and so it has in a column of numbers
+empty-null : (column : ColumnOf) → EmptyIsNull column → value_of column [] ≡ Ok null
+unfolding normal_text words
+empty-null column plain = by column.datatype refl
+  where
+    by : (d : DatatypeOf) → column.datatype ≡ d → value_of column [] ≡ Ok null
+    by datatype.integer kind = rw (kind, plain.default, plain.nulls, plain.required) refl
+    by datatype.text kind = rw (kind, plain.default, plain.nulls, plain.required) refl
+    by (datatype.boolean ts fs) kind = rw (kind, plain.default, plain.nulls, plain.required) refl
+    by (datatype.date form) kind = rw (kind, plain.default, plain.nulls, plain.required) refl
+    by datatype.decimal kind = rw (kind, plain.default, plain.nulls, plain.required) refl
+
+raw-empty : (raw : RawField) → raw.bytes ≡ [] → raw_content raw ≡ []
+raw-empty raw e = by raw.quoted refl
+  where
+    by : (q : Bool) → raw.quoted ≡ q → raw_content raw ≡ []
+    by true is = rw (is, e) refl
+    by false is = rw (is, e) refl
+
+pub no_bytes : (bytes : List ℕ) → length bytes == 0 ≡ true → bytes ≡ []
+no_bytes [] none = refl
+no_bytes (byte ∷ bytes) none = absurd (omega (arith, eqb-true (suc (length bytes)) 0 none))
+
+pub empty_value : (column : ColumnOf) (raw : RawField) → EmptyIsNull column → raw.bytes ≡ [] → value_in (column, raw) ≡ Ok null
+empty_value column raw plain e = ap (value_of column) (raw-empty raw e) ∙ empty-null column plain

@@ -1,5 +1,5 @@
 //! The cells of a column of numbers, as the rows of a file are read.
-ghost use Rattle.std.specs.Prelude.{◌≡◌, ◌<◌, ◌≤◌, ◌+◌, ◌⊎◌, Ok, Err, [], IfOk, IfErr, OnOk, length};
+ghost use Rattle.std.specs.Prelude.{◌≡◌, ◌<◌, ◌≤◌, ◌+◌, ◌++◌, ◌⊎◌, true, Ok, Err, [], ◌∷◌, IfOk, IfErr, OnOk, OnErr, length};
 ghost use Rattle.std.specs.Option.{ForSome};
 ghost use Rattle.cell_types.specs.Kind.{cell_of, kind_of, IsNumberOf};
 ghost use Rattle.cell_types.specs.declared.kind.ColumnKind.TheVariants.{Number};
@@ -8,10 +8,11 @@ ghost use Rattle.cell_types.specs.Column.{column_view};
 ghost use Rattle.cell_types.specs.Datatype.{datatype_view};
 ghost use Rattle.csv_fields.specs.Raw.{raw_view};
 ghost use Rattle.csv_fields.specs.Values.{value_in, value_or_null, HasValue};
-ghost use Rattle.column_blocks.specs.Parts.{part_cells, HasCellFault, PartHasValues};
+ghost use Rattle.column_blocks.specs.Parts.{part_cells, EmptyIsNull, HasCellFault, PartHasValues};
 ghost use Rattle.column_blocks.specs.Readers.{numbers_with, numbers_with_cells};
 ghost use Rattle.column_blocks.specs.TypedColumn.{cells_in, AreBlocks};
 
+use crate::text_reader::empty_is_null;
 use block_summary::{BLOCK_ROWS, CellBuffer, PackedColumn};
 use cell_types::{CellFault, Column, NumberKind, read_number};
 use csv_fields::{Part, Raw};
@@ -81,26 +82,32 @@ impl NumberReader {
             (self.new ≡ numbers_with self.old (cell_of self.old.kind number)) }
     {
         if self.buffer.len() == BLOCK_ROWS {
-            self.blocks.push(self.buffer.pack(alloc)?)?;
-            self.buffer.clear();
+            end_block(alloc, &mut self.blocks, &mut self.buffer)?;
         }
         self.buffer.push(number);
         Ok(())
     }
 
-    /// Reads the field of the next row.
+    /// Reads the field of the next row. If `empty_is_null`, the empty text is a null, and no fault.
     #[inline(always)]
-    fn read(&mut self, alloc: Global, column: &Column, raw: Raw<'_>) -> Result<(), CellFault>
+    fn read(
+        &mut self,
+        alloc: Global,
+        column: &Column,
+        raw: Raw<'_>,
+        empty_is_null: bool,
+    ) -> Result<(), CellFault>
         requires column { kind_of (datatype_view column.now.datatype)
             ≡ Number self.old.kind }
         requires room { length self.old.cells < self.old.rows }
+        requires plain { empty_is_null ≡ true → EmptyIsNull (column_view column.now) }
         ensures value { OnOk result (HasValue (column_view column.now) (raw_view raw.entry)) }
         ensures cells { OnOk result (self.new ≡ numbers_with self.old
             (value_or_null (value_in (column_view column.now, raw_view raw.entry)))) }
         ensures fault { IfErr result (λ e. (e ≡ CellFault.NoMemory)
             ⊎ (value_in (column_view column.now, raw_view raw.entry) ≡ Err e)) }
     {
-        let number = field_number(alloc, column, self.kind, raw)?;
+        let number = field_number(alloc, column, self.kind, raw, empty_is_null)?;
         self.push(alloc, number)?;
         Ok(())
     }
@@ -123,8 +130,9 @@ impl NumberReader {
         ensures fault { IfErr result (λ e. (e ≡ CellFault.NoMemory)
             ⊎ HasCellFault (column_view column.now) col part.now.rows e) }
     {
+        let plain = empty_is_null(column);
         for row in 0..part.rows() {
-            match self.read(alloc, column, part.field(row, col)) {
+            match self.read(alloc, column, part.field(row, col), plain) {
                 Ok(()) => {}
                 Err(fault) => return Err(fault),
             }
@@ -145,9 +153,53 @@ impl NumberReader {
     }
 }
 
-/// Returns the number of the value of a field, or null.
+/// Moves the cells of a buffer into a block after others.
+#[inline(never)]
+fn end_block(
+    alloc: Global,
+    blocks: &mut Vec<PackedColumn>,
+    buffer: &mut CellBuffer,
+) -> Result<(), AllocError>
+    ensures blocks { OnOk result
+        (blocks.new.items ≡ blocks.old.items ++ buffer.old.cells ∷ []) }
+    ensures buffer { OnOk result (buffer.new ≡ record buffer.old { cells = [] }) }
+    ensures kept { OnErr result ((blocks.new.items ≡ blocks.old.items)
+        × (buffer.new ≡ buffer.old)) }
+{
+    blocks.push(buffer.pack(alloc)?)?;
+    buffer.clear();
+    Ok(())
+}
+
+/// Returns the number of the value of a field, or null. If `empty_is_null`, the empty text is a null, and no fault.
 #[inline(always)]
 fn field_number(
+    alloc: Global,
+    column: &Column,
+    kind: NumberKind,
+    raw: Raw<'_>,
+    empty_is_null: bool,
+) -> Result<Option<i64>, CellFault>
+    requires column { kind_of (datatype_view column.now.datatype) ≡ Number kind }
+    requires plain { empty_is_null ≡ true → EmptyIsNull (column_view column.now) }
+    ensures value { IfOk result (λ number.
+        value_in (column_view column.now, raw_view raw.entry) ≡ Ok (cell_of kind number)) }
+    ensures number { IfOk result (λ number. ForSome number (IsNumberOf kind)) }
+    ensures fault { IfErr result (λ e. (e ≡ CellFault.NoMemory)
+        ⊎ (value_in (column_view column.now, raw_view raw.entry) ≡ Err e)) }
+{
+    if empty_is_null && raw.bytes.is_empty() {
+        return Ok(None);
+    }
+    if !raw.quoted {
+        return read_number(alloc, column, kind, raw.bytes);
+    }
+    quoted_number(alloc, column, kind, raw)
+}
+
+/// Does what [`field_number`] does, for a field in double quotes.
+#[inline(never)]
+fn quoted_number(
     alloc: Global,
     column: &Column,
     kind: NumberKind,
@@ -160,9 +212,6 @@ fn field_number(
     ensures fault { IfErr result (λ e. (e ≡ CellFault.NoMemory)
         ⊎ (value_in (column_view column.now, raw_view raw.entry) ≡ Err e)) }
 {
-    if !raw.quoted {
-        return read_number(alloc, column, kind, raw.bytes);
-    }
     let text = raw.text(alloc)?;
     read_number(alloc, column, kind, text.as_str())
 }

@@ -1,5 +1,5 @@
 //! The cells of a column of texts, as the rows of a file are read.
-ghost use Rattle.std.specs.Prelude.{◌≡◌, ◌<◌, ◌≤◌, ◌+◌, ◌⊎◌, true, Ok, Err, [], IfOk, IfErr, OnOk, length, option_map, take};
+ghost use Rattle.std.specs.Prelude.{◌≡◌, ◌<◌, ◌≤◌, ◌+◌, ◌++◌, ◌⊎◌, true, Ok, Err, [], ◌∷◌, IfOk, IfErr, OnOk, OnErr, length, option_map, take};
 ghost use Rattle.std.specs.Cow.{cow_str_bytes};
 ghost use Rattle.block_summary.specs.declared.block.TheConstants.{BLOCK_ROWS};
 ghost use Rattle.cell_types.specs.Column.{column_view};
@@ -71,7 +71,7 @@ impl TextReader {
             ≡ texts_with self.old (text_or_null (option_map cow_str_bytes text.now))) }
     {
         if self.buffer.len() == BLOCK_ROWS {
-            self.blocks.push(self.buffer.pack(alloc)?)?;
+            end_block(alloc, &mut self.blocks, &mut self.buffer)?;
         }
         match text {
             Some(text) => self.buffer.push(text.as_str()),
@@ -113,8 +113,7 @@ impl TextReader {
             ≡ texts_with self.old (content_cell true (field_content quoted text.now))) }
     {
         if self.buffer.len() == BLOCK_ROWS {
-            let block = self.buffer.pack(alloc)?;
-            self.blocks.push(block)?;
+            end_block(alloc, &mut self.blocks, &mut self.buffer)?;
         }
         self.buffer.push_field(text, quoted, rest, true)
     }
@@ -211,8 +210,27 @@ impl TextReader {
     }
 }
 
+/// Moves the cells of a buffer into a block after others. After an error the cells may be lost.
+#[inline(never)]
+fn end_block(
+    alloc: Global,
+    blocks: &mut Vec<TextBlock>,
+    buffer: &mut TextBuffer,
+) -> Result<(), AllocError>
+    ensures blocks { OnOk result
+        (blocks.new.items ≡ blocks.old.items ++ buffer.old.cells ∷ []) }
+    ensures buffer { OnOk result (buffer.new ≡ record buffer.old { cells = [] }) }
+    ensures kept { OnErr result ((blocks.new.items ≡ blocks.old.items)
+        × (buffer.new.room ≡ buffer.old.room)
+        × (length buffer.new.cells ≤ length buffer.old.cells)) }
+{
+    let block = buffer.pack(alloc)?;
+    blocks.push(block)?;
+    Ok(())
+}
+
 /// Returns true if the empty text alone is null, and no other text and no fault stands for it.
-fn empty_is_null(column: &Column) -> bool
+pub fn empty_is_null(column: &Column) -> bool
     ensures { result ≡ true → EmptyIsNull (column_view column.now) }
 {
     column.nulls.len() == 1

@@ -1,21 +1,21 @@
-use Rattle.std.proofs.Common.{length, sym, ap, ◌∙◌, subst, arith}
-use Rattle.std.specs.Str.Parse.{IsNumeral, starts_with_minus, without_leading_sign}
-use Rattle.std.proofs.lemmas.Int.{ints}
-use Rattle.cell_types.proofs.ShortIntegers.{value-minus, value-plain}
+use Rattle.std.proofs.Common.{length, ap, ap₂, ◌∙◌, subst, arith, rules, w64}
+use Rattle.std.specs.Prelude.{FitsSigned}
+use Rattle.std.specs.Str.Parse.{IsNumeral, digits_value, starts_with_minus, without_leading_sign}
+use Rattle.std.proofs.lemmas.Int.{to_z-of_z}
+use Rattle.cell_types.specs.Decimal.{signed}
+use Rattle.cell_types.proofs.ShortIntegers.{value_below}
 use Rattle.cell_types.proofs.integer.short_integer.Goals as goal
 
-pub returns-then-is_negative : goal.returns-then-is_negative
-returns-then-is_negative c =
-    let is = c.without_sign-digits.ensures ∙ ap without_leading_sign c.as_bytes-bytes.ensures.value in
-    let minus = sym (c.if-is_negative.ensures ∙ ap starts_with_minus c.as_bytes-bytes.ensures.value) in (
-      (subst (IsNumeral 10) is c.in-Some.ensures.0, omega (arith, ap length is)),
-      value-minus c.args.text.now c.without_sign-digits.result.now _ is (omega (arith, ints, c.in-Some.ensures.1)) minus,
-    )
+pub with_sign-requires : goal.with_sign-requires
+with_sign-requires c =
+    let below = value_below c.without_sign-digits.result.now c.in_ok-value.ensures.0.1 (omega arith) in
+    omega (arith, below, c.in_ok-value.ensures.1)
 
-pub returns-else-is_negative : goal.returns-else-is_negative
-returns-else-is_negative c =
+pub returns : goal.returns
+returns c =
     let is = c.without_sign-digits.ensures ∙ ap without_leading_sign c.as_bytes-bytes.ensures.value in
-    let plain = sym (c.if-is_negative.ensures ∙ ap starts_with_minus c.as_bytes-bytes.ensures.value) in (
-      (subst (IsNumeral 10) is c.in-Some.ensures.0, omega (arith, ap length is)),
-      value-plain c.args.text.now c.without_sign-digits.result.now _ is (omega (arith, ints, c.in-Some.ensures.1)) plain,
+    let small : FitsSigned w64 c.with_sign.result = search rules in (
+      (subst (IsNumeral 10) is c.in_ok-value.ensures.0, omega (arith, ap length is)),
+      to_z-of_z w64 c.with_sign.result small ∙ c.with_sign.ensures
+          ∙ ap₂ signed (c.is_negative.ensures ∙ ap starts_with_minus c.as_bytes-bytes.ensures.value) (c.in_ok-value.ensures.1 ∙ ap (digits_value 10) is),
     )

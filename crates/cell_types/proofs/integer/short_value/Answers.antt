@@ -1,6 +1,5 @@
 use Rattle.std.proofs.Common.{◌≡◌, length, arith, ap, sym, ◌∙◌, subst}
 use Rattle.std.specs.Str.Parse.{AllDigits, digits_value}
-use Rattle.std.proofs.lemmas.Int.{ints}
 use Rattle.std.proofs.lemmas.Bool.{eqb-false}
 use Rattle.std.proofs.lemmas.List.{take_all}
 use Rattle.cell_types.proofs.ShortIntegers.{digit_more, no_digit, short_below, value_below}
@@ -24,17 +23,10 @@ loop-byte-preserved c =
     digit_more c.args.digits.now c.loop-byte.byte-index c.loop-byte.value c.from.result c.loop-byte-test.true c.loop-byte.invariant.0 c.loop-byte.invariant.1
     (omega (arith, c.from.ensures)) (omega (arith, c.from.ensures))
 
-pub overflow_cast-result : goal.overflow_cast-result
-overflow_cast-result c =
-    let all = take_all c.loop-byte.byte-index c.args.digits.now c.loop-byte-test.false in
-    let below = value_below c.args.digits.now (subst (AllDigits 10) all c.loop-byte.invariant.0) c.requires in
-    let value : c.loop-byte.value ≡ digits_value 10 c.args.digits.now = c.loop-byte.invariant.1 ∙ ap (digits_value 10) all in
-    record { sfits = omega arith }
-
 pub returns : goal.returns
 returns c =
     let all = take_all c.loop-byte.byte-index c.args.digits.now c.loop-byte-test.false in
     let digits = subst (AllDigits 10) all c.loop-byte.invariant.0 in
     let below = value_below c.args.digits.now digits c.requires in
     let value : c.loop-byte.value ≡ digits_value 10 c.args.digits.now = c.loop-byte.invariant.1 ∙ ap (digits_value 10) all in
-    ((omega (arith, eqb-false (length c.args.digits.now) 0 (sym c.if-is_empty.ensures)), digits), omega (arith, ints))
+    ((omega (arith, eqb-false (length c.args.digits.now) 0 (sym c.if-is_empty.ensures)), digits), value)

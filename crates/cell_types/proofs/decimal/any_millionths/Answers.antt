@@ -5,7 +5,7 @@ use Rattle.std.specs.Str.Parse.{starts_with_minus, without_leading_sign}
 use Rattle.cell_types.specs.Decimal.{is_point, signed, value_of_millionths}
 use Rattle.cell_types.proofs.DigitLaws.{AllDigits-take}
 use Rattle.cell_types.proofs.DecimalLemmas.{both_parts, out_of_range, read-not, read-too_fine, read-written}
-use Rattle.cell_types.proofs.decimal.millionths_of.Goals as goal
+use Rattle.cell_types.proofs.decimal.any_millionths.Goals as goal
 
 pub returns-then-not-are_parts : goal.returns-then-not-are_parts
 returns-then-not-are_parts c =

@@ -1,7 +1,7 @@
 use Rattle.cell_types.specs.Column.{column_view}
 use Rattle.cell_types.specs.Value.{value_view}
 use Rattle.cell_types.proofs.ReadingLemmas.{fits-column}
-use Rattle.cell_types.proofs.number.read_number.Goals as goal
+use Rattle.cell_types.proofs.number.read_other_number.Goals as goal
 
 pub number_of_value-requires : goal.number_of_value-requires
 number_of_value-requires c =
