@@ -16,6 +16,11 @@ pub record AreCellsCounted (text : CellValue → List ℕ) (cells : List CellVal
   pub long : length new ≡ length old
   pub each : (i : ℕ) → i < length old → get_or new i 0 ≡ told (get_or old i 0 + length (text (get_or cells i null)))
 
+-- the same of the cells of a list from one on
+pub record AreCellsCountedFrom (text : CellValue → List ℕ) (first : ℕ) (cells : List CellValue) (old new : List ℕ) : Type 0 where
+  pub long : length new ≡ length old
+  pub each : (i : ℕ) → i < length old → get_or new i 0 ≡ told (get_or old i 0 + length (text (get_or cells (first + i) null)))
+
 -- a text has no byte that does not stand for itself
 abbrev pub IsPlainCell : Bool → CellValue → Type 0
 IsPlainCell json cell = (t : List ℕ) → cell ≡ text_cell t → IsTrue (is_plain_text json t)

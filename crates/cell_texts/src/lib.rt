@@ -3,6 +3,7 @@
 #![tactic(auto)]
 
 mod ahead;
+mod part_sizes;
 mod put;
 mod row_sizes;
 mod sizes;

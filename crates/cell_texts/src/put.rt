@@ -1,6 +1,7 @@
 //! The texts of cells, written into room that is there.
-ghost use Rattle.std.specs.Prelude.{◌≡◌, ◌+◌, ◌++◌, ◌≤◌, length, take};
+ghost use Rattle.std.specs.Prelude.{◌+◌, ◌≤◌, length};
 ghost use Rattle.reply_values.specs.Printed.{printed_value};
+ghost use Rattle.reply_values.specs.Size.{IsWrittenAt};
 ghost use Rattle.row_columns.specs.Cell.{cell_view};
 
 use reply_values::{put_bool, put_date, put_decimal, put_integer, put_piece, put_text, put_value};
@@ -10,10 +11,7 @@ use row_columns::Cell;
 #[inline(always)]
 pub fn put_cell<const JSON: bool>(out: &mut [u8], at: usize, cell: Cell<'_>) -> usize
     requires { at + length (printed_value JSON (cell_view cell)) ≤ length out.old }
-    ensures long { length out.new ≡ length out.old }
-    ensures bytes { take result out.new
-        ≡ take at out.old ++ printed_value JSON (cell_view cell.entry) }
-    ensures end { result ≡ at + length (printed_value JSON (cell_view cell.entry)) }
+    ensures { IsWrittenAt out.old out.new at result (printed_value JSON (cell_view cell.entry)) }
 {
     match cell {
         Cell::Null if JSON => put_piece(out, at, b"null"),

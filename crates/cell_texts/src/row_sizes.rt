@@ -1,14 +1,14 @@
 //! How many bytes the values of rows take, in JSON or in CSV. None is written. The cells that rows of one block have in a column are counted one after another.
-ghost use Rattle.std.specs.Prelude.{◌≡◌, ◌+◌, ◌<◌, ◌≤◌, ℕ, [], IsTrue, get_or, length};
+ghost use Rattle.std.specs.Prelude.{◌≡◌, ◌+◌, ◌<◌, ◌≤◌, ℕ, [], get_or, length};
 ghost use Rattle.std.specs.List.{flat_map};
 ghost use Rattle.cell_types.specs.Value.{null};
-ghost use Rattle.cell_texts.specs.Sizes.{frame_at, AreCellsCounted, ArePlainCells, AreRowsCounted};
+ghost use Rattle.cell_texts.specs.Sizes.{frame_at, AreRowsCounted};
 ghost use Rattle.reply_values.specs.Printed.{printed_value};
 ghost use Rattle.reply_values.specs.Size.{told};
 
-use crate::sizes::{cell_room, cell_size, known_size};
-use reply_values::is_plain;
-use row_columns::{ColumnPart, Columns};
+use crate::part_sizes::add_cells;
+use crate::sizes::{cell_room, cell_size};
+use row_columns::Columns;
 
 /// How many bytes a row takes without its values: the first row, and how many more each other one.
 #[derive(Clone, Copy, Drop)]
@@ -43,28 +43,6 @@ pub fn row_room<const JSON: bool>(columns: &Columns, row: usize, start: usize) -
         room = room.saturating_add(cell_room::<JSON>(values.cell(col)));
     }
     room
-}
-
-/// Returns true if each byte of the texts of cells stands for itself, by one look over all of them, or false if the cells are not texts.
-fn are_plain<const JSON: bool>(cells: &ColumnPart<'_>) -> bool
-    ensures { IsTrue result → ArePlainCells JSON cells.now }
-{
-    match cells.text_bytes() {
-        Some(bytes) => is_plain::<JSON>(bytes),
-        None => false,
-    }
-}
-
-/// Adds to each size how many bytes its cell takes.
-#[inline(never)]
-fn add_cells<const JSON: bool>(cells: &ColumnPart<'_>, sizes: &mut [usize])
-    requires { length cells.now ≡ length sizes.old }
-    ensures { AreCellsCounted (printed_value JSON) cells.now sizes.old sizes.new }
-{
-    let is_plain = are_plain::<JSON>(cells);
-    for i in 0..sizes.len() {
-        sizes[i] = sizes[i].saturating_add(known_size::<JSON>(cells.cell(i), is_plain));
-    }
 }
 
 /// Adds to each size how many bytes the cell of its row takes in a column, of as many rows from `first` on as there are places. Such cells may be far from one

@@ -104,7 +104,7 @@ fn rows_body(
     }
     match format {
         Format::Json => BodyCursor::json_counted(alloc, rows, counted),
-        Format::Csv => BodyCursor::csv_counted(rows, counted),
+        Format::Csv => BodyCursor::csv_counted(alloc, rows, counted),
     }
 }
 

@@ -1,10 +1,10 @@
 -- How many bytes pieces take, and the longest of them.
-use Rattle.std.proofs.Common.{◌≡◌, ℕ, zero, suc, ◌+◌, ◌-◌, ◌^◌, ◌<◌, ◌≤◌, List, [], ◌∷◌, ◌++◌, drop, get_or, length, take, sym, ap, ◌∙◌, subst, arith, length-append}
+use Rattle.std.proofs.Common.{◌≡◌, ℕ, zero, suc, ◌+◌, ◌<◌, ◌≤◌, List, [], ◌∷◌, ◌++◌, drop, get_or, length, take, sym, ap, ◌∙◌, subst, arith, length-append}
 use Rattle.std.specs.Prelude.{max}
 use Rattle.std.specs.List.{AllByRecursion, concat}
 use Rattle.std.proofs.lemmas.List.{append-nil, drop_more, take_more}
 use Rattle.std.proofs.lemmas.List.Folds.{concat-append}
-use Rattle.reply_text.specs.Pieces.{longest_of, AreSizesOf, AreSizesWithin, IsNearLongest}
+use Rattle.reply_text.specs.Pieces.{longest_of, AreSizesOf}
 use Rattle.reply_values.specs.Size.{told}
 
 longest_more : (pieces : List (List ℕ)) (piece : List ℕ) → longest_of (pieces ++ piece ∷ []) ≡ max (longest_of pieces) (length piece)
@@ -25,14 +25,6 @@ sizes_more pieces place all longest size now most inside are is now_is most_is =
       most = omega (arith, longest_more (take place pieces) piece, are.most, is, most_is);
     })
 
--- one piece more, before the others
-pub sizes_before : (piece : List ℕ) (pieces : List (List ℕ)) (all longest size now most : ℕ) → AreSizesOf pieces all longest → size ≡ told (length piece)
-    → now ≡ told (all + size) → most ≡ max longest size → AreSizesOf (piece ∷ pieces) now most
-sizes_before piece pieces all longest size now most are is now_is most_is = record {
-  counted = omega (arith, length-append piece (concat pieces), are.counted, is, now_is);
-  most = omega (arith, are.most, is, most_is);
-}
-
 -- the longest is no longer than all
 pub longest_within : (pieces : List (List ℕ)) → longest_of pieces ≤ length (concat pieces)
 longest_within [] = omega arith
@@ -41,17 +33,6 @@ longest_within (piece ∷ pieces) = omega (arith, longest_within pieces, length-
 pub pieces_within : (pieces : List (List ℕ)) (most : ℕ) → longest_of pieces ≤ most → AllByRecursion (λ piece. length piece ≤ most) pieces
 pieces_within [] most bound = tt
 pieces_within (piece ∷ pieces) most bound = (omega (arith, bound), pieces_within pieces most (omega (arith, bound)))
-
--- where the number of all bytes was reported, it is their number
-pub all_told : (pieces : List (List ℕ)) (all longest : ℕ) → AreSizesWithin pieces all longest → (all ≡ 2 ^ 64 - 1 → ⊥) → all ≡ length (concat pieces)
-all_told pieces all longest are other = omega (arith, are.counted, other)
-
-pub longest_told : (pieces : List (List ℕ)) (all longest : ℕ) → AreSizesWithin pieces all longest → (all ≡ 2 ^ 64 - 1 → ⊥) → IsNearLongest pieces longest
-longest_told pieces all longest are other = record { least = omega (arith, are.counted, are.least, other, longest_within pieces); most = are.most }
-
--- a number that is the length of the longest is near to it
-pub sizes_within : (pieces : List (List ℕ)) (all longest : ℕ) → AreSizesOf pieces all longest → AreSizesWithin pieces all longest
-sizes_within pieces all longest are = record { counted = are.counted; least = omega (arith, are.most); most = omega (arith, are.most) }
 
 -- ---- the next of them
 

@@ -1,57 +1,70 @@
 -- The pieces of bodies of rows: which is at a place, and that all of them are the body.
-use Rattle.std.proofs.Common.{◌≡◌, ℕ, zero, suc, ◌+◌, ◌-◌, ◌<◌, ◌≤◌, List, [], ◌∷◌, ◌++◌, codes, get_or, length, map, refl, sym, ap, ◌∙◌, arith, tests, append_assoc, length-append}
-use Rattle.std.specs.List.{AllByRecursion, concat, join_with_byte}
-use Rattle.std.proofs.lemmas.List.{append-nil}
+use Rattle.std.proofs.Common.{◌≡◌, ℕ, zero, suc, ◌+◌, ◌-◌, ◌<◌, ◌≤◌, Bool, true, false, List, [], ◌∷◌, ◌++◌, codes, get_or, length, map, take, refl, sym, ap, ◌∙◌, arith, append_assoc, append-nil, length-append}
+use Rattle.std.specs.Prelude.{if◌then◌else◌}
+use Rattle.std.specs.List.{AllByRecursion, concat, flat_map, join_with_byte}
+use Rattle.std.proofs.lemmas.List.{get_or-append_right, get_or_append_left, take_all, take_more}
+use Rattle.std.proofs.lemmas.List.Folds.{concat-append}
 use Rattle.cell_types.specs.Value.{CellValue}
 use Rattle.result_rows.specs.Rows.{OrderedOf, RowsOf}
-use Rattle.reply_text.specs.Body.{rows_text}
-use Rattle.reply_text.specs.Csv.{csv_line, csv_text, row_line}
-use Rattle.reply_text.specs.Inside.{IsTakenTo}
-use Rattle.reply_text.specs.Json.{comma_before, json_row}
-use Rattle.reply_text.specs.Pieces.{csv_pieces, json_items, json_opening, json_pieces}
+use Rattle.reply_text.specs.declared.pieces.Pieces.{Pieces}
+use Rattle.reply_text.specs.declared.pieces.Pieces.TheVariants.{Rows, Bytes}
+use Rattle.reply_text.specs.Csv.{csv_line, row_line}
+use Rattle.reply_text.specs.Inside.{byte_pieces, cursor_pieces}
+use Rattle.reply_text.specs.Json.{comma_before, json_count, json_row}
+use Rattle.reply_text.specs.Pieces.{body_pieces, body_text, opening_text, printed_row, row_piece, row_pieces}
+use Rattle.reply_values.specs.Json.{json_text}
 use Rattle.reply_values.specs.Printed.{csv_value}
-use Rattle.reply_text.proofs.SizeLemmas.{flat_is_concat}
+use Rattle.reply_text.proofs.JoinLemmas.{comma_after, concat_front, join_is}
+
+abbrev pub end_pieces : Bool → List (List ℕ)
+end_pieces json = if json then codes "]}" ∷ [] else []
 
 -- ---- which is at a place
 
-item_at : (names : List (List ℕ)) (place : ℕ) (rows : List (List CellValue)) (n : ℕ) → n < length rows
-    → get_or (json_items names place rows) n [] ≡ comma_before (place + n) ++ json_row names (get_or rows n [])
-item_at names place [] n inside = absurd (omega (arith, inside))
-item_at names place (row ∷ rows) zero inside = let same : place ≡ place + 0 = omega arith in ap (λ k. comma_before k ++ json_row names row) same
-item_at names place (row ∷ rows) (suc n) inside =
-    let same : place + 1 + n ≡ place + suc n = omega arith in
-    item_at names (place + 1) rows n (omega (arith, inside)) ∙ ap (λ k. comma_before k ++ json_row names (get_or rows n [])) same
+pub rows_count : (json : Bool) (names : List (List ℕ)) (place : ℕ) (rows : List (List CellValue)) → length (row_pieces json names place rows) ≡ length rows
+rows_count json names place [] = refl
+rows_count json names place (row ∷ rows) = ap suc (rows_count json names (suc place) rows)
 
-pub end_at : (names : List (List ℕ)) (place : ℕ) (rows : List (List CellValue)) → get_or (json_items names place rows) (length rows) [] ≡ codes "]}"
-end_at names place [] = refl
-end_at names place (row ∷ rows) = end_at names (place + 1) rows
+row_at : (json : Bool) (names : List (List ℕ)) (place : ℕ) (rows : List (List CellValue)) (n : ℕ) → n < length rows
+    → get_or (row_pieces json names place rows) n [] ≡ row_piece json names (place + n) (get_or rows n [])
+row_at json names place [] n inside = absurd (omega (arith, inside))
+row_at json names place (row ∷ rows) zero inside = let same : place ≡ place + 0 = omega arith in ap (λ k. row_piece json names k row) same
+row_at json names place (row ∷ rows) (suc n) inside =
+    let same : suc place + n ≡ place + suc n = omega arith in
+    row_at json names (suc place) rows n (omega (arith, inside)) ∙ ap (λ k. row_piece json names k (get_or rows n [])) same
 
-pub items_count : (names : List (List ℕ)) (place : ℕ) (rows : List (List CellValue)) → length (json_items names place rows) ≡ length rows + 1
-items_count names place [] = refl
-items_count names place (row ∷ rows) = omega (arith, items_count names (place + 1) rows)
-
-pub item_is : (names : List (List ℕ)) (rows : List (List CellValue)) (row : ℕ) → row < length rows
-    → get_or (json_items names 0 rows) row [] ≡ comma_before row ++ json_row names (get_or rows row [])
-item_is names rows row inside =
-    let same : 0 + row ≡ row = omega arith in
-    item_at names 0 rows row inside ∙ ap (λ k. comma_before k ++ json_row names (get_or rows row [])) same
+pub row_is_at : (json : Bool) (names : List (List ℕ)) (rows : List (List CellValue)) (n : ℕ) → n < length rows
+    → get_or (row_pieces json names 0 rows) n [] ≡ row_piece json names n (get_or rows n [])
+row_is_at json names rows n inside = let same : 0 + n ≡ n = omega arith in row_at json names 0 rows n inside ∙ ap (λ k. row_piece json names k (get_or rows n [])) same
 
 -- the same by the number of the piece
-pub json_piece : (rows : RowsOf) (number : ℕ) → 0 < number → number - 1 < length rows.rows
-    → get_or (json_pieces rows) number [] ≡ comma_before (number - 1) ++ json_row rows.names (get_or rows.rows (number - 1) [])
-json_piece rows number some inside =
-    let same : number ≡ suc (number - 1) = omega (arith, some) in
-    ap (λ n. get_or (json_pieces rows) n []) same ∙ item_is rows.names rows.rows (number - 1) inside
+piece_is : (json : Bool) (rows : RowsOf) (number : ℕ) → 0 < number → get_or (body_pieces json rows) number [] ≡ get_or (row_pieces json rows.names 0 rows.rows ++ end_pieces json) (number - 1) []
+piece_is json rows zero some = absurd (omega (arith, some))
+piece_is json rows (suc number) some = let same : number ≡ suc number - 1 = omega arith in ap (λ n. get_or (row_pieces json rows.names 0 rows.rows ++ end_pieces json) n []) same
 
-pub json_last : (rows : RowsOf) (number : ℕ) → 0 < number → length rows.rows ≤ number - 1 → number < length (json_pieces rows) → get_or (json_pieces rows) number [] ≡ codes "]}"
-json_last rows zero some past inside = absurd (omega (arith, some))
-json_last rows (suc row) some past inside =
-    let same : row ≡ length rows.rows = omega (arith, past, inside, items_count rows.names 0 rows.rows) in
-    ap (λ n. get_or (json_items rows.names 0 rows.rows) n []) same ∙ end_at rows.names 0 rows.rows
+pub row_number : (json : Bool) (rows : RowsOf) (number : ℕ) → 0 < number → number - 1 < length rows.rows
+    → get_or (body_pieces json rows) number [] ≡ row_piece json rows.names (number - 1) (get_or rows.rows (number - 1) [])
+row_number json rows number some inside =
+    let all = row_pieces json rows.names 0 rows.rows in
+    piece_is json rows number some ∙ get_or_append_left all (end_pieces json) [] (number - 1) (omega (arith, inside, rows_count json rows.names 0 rows.rows))
+    ∙ row_is_at json rows.names rows.rows (number - 1) inside
+
+count : (json : Bool) (rows : RowsOf) → length (body_pieces json rows) ≡ suc (length rows.rows + length (end_pieces json))
+count json rows = omega (arith, rows_count json rows.names 0 rows.rows, length-append (row_pieces json rows.names 0 rows.rows) (end_pieces json))
+
+pub last_number : (json : Bool) (rows : RowsOf) (number : ℕ) → 0 < number → length rows.rows ≤ number - 1 → number < length (body_pieces json rows)
+    → get_or (body_pieces json rows) number [] ≡ codes "]}"
+last_number false rows number some past inside = absurd (omega (arith, some, past, inside, count false rows))
+last_number true rows number some past inside =
+    let all = row_pieces true rows.names 0 rows.rows in
+    let none : number - 1 - length rows.rows ≡ 0 = omega (arith, past, inside, count true rows) in
+    piece_is true rows number some ∙ get_or-append_right all (end_pieces true) (length rows.rows) (number - 1) [] (rows_count true rows.names 0 rows.rows) past
+    ∙ ap (λ n. get_or (end_pieces true) n []) none
 
 -- one that is neither the first nor the last is a row
-pub json_inside : (rows : RowsOf) (number len : ℕ) → (number ≡ 0 → ⊥) → number < length (json_pieces rows) → (number - 1 ≡ len → ⊥) → len ≡ length rows.rows → number - 1 < length rows.rows
-json_inside rows number len some within other is = omega (arith, some, within, other, is, items_count rows.names 0 rows.rows)
+pub is_row : (json : Bool) (rows : RowsOf) (number len : ℕ) → (number ≡ 0 → ⊥) → number < length (body_pieces json rows) → (number - 1 ≡ len → ⊥) → len ≡ length rows.rows → number - 1 < length rows.rows
+is_row true rows number len some within other is = omega (arith, some, within, other, is, count true rows)
+is_row false rows number len some within other is = omega (arith, some, within, other, is, count false rows)
 
 -- ---- of rows that are taken in turn
 
@@ -60,79 +73,104 @@ abbrev pub with_next : OrderedOf → OrderedOf
 with_next rows = record { stored = rows.stored; rows = rows.rows; taken = rows.taken + 1 }
 
 -- the row that was next, as it stands in the table
-row_taken : (rows : OrderedOf) (number place : ℕ) → IsTakenTo rows number → number - 1 < length rows.rows.rows
-    → get_or rows.stored.rows place [] ≡ get_or rows.rows.rows rows.taken [] → get_or rows.rows.rows (number - 1) [] ≡ get_or rows.stored.rows place []
-row_taken rows number place taken inside is =
-    let at : number - 1 ≡ rows.taken = omega (arith, taken, inside) in
-    ap (λ n. get_or rows.rows.rows n []) at ∙ sym is
-
-pub json_taken : (rows new : OrderedOf) (table : RowsOf) (number place : ℕ) → IsTakenTo rows number → 0 < number → number - 1 < length rows.rows.rows
+pub row_taken : (json : Bool) (rows new : OrderedOf) (table : RowsOf) (number place : ℕ) → rows.taken ≡ number - 1 → 0 < number → number - 1 < length rows.rows.rows
     → get_or rows.stored.rows place [] ≡ get_or rows.rows.rows rows.taken [] → new ≡ with_next rows → table ≡ new.stored → new.rows.names ≡ new.stored.names
-    → get_or (json_pieces rows.rows) number [] ≡ comma_before (number - 1) ++ json_row table.names (get_or table.rows place [])
-json_taken rows new table number place taken some inside is next table_is names =
+    → get_or (body_pieces json rows.rows) number [] ≡ row_piece json table.names (number - 1) (get_or table.rows place [])
+row_taken json rows new table number place taken some inside is next table_is names =
     let stands : table ≡ rows.stored = table_is ∙ ap (λ (o : OrderedOf). o.stored) next in
     let named : rows.rows.names ≡ table.names = ap (λ (o : OrderedOf). o.rows.names) (sym next) ∙ names ∙ ap (λ (r : RowsOf). r.names) (sym table_is) in
-    json_piece rows.rows number some inside
-    ∙ ap (λ row. comma_before (number - 1) ++ json_row rows.rows.names row) (row_taken rows number place taken inside is ∙ ap (λ (r : RowsOf). get_or r.rows place []) (sym stands))
-    ∙ ap (λ ns. comma_before (number - 1) ++ json_row ns (get_or table.rows place [])) named
-
--- after that one row more was taken
-pub one_taken : (rows new : OrderedOf) (number : ℕ) → IsTakenTo rows number → 0 < number → number - 1 < length rows.rows.rows → new ≡ with_next rows → IsTakenTo new (number + 1)
-one_taken rows new number taken some inside next =
-    omega (arith, taken, some, inside, ap (λ (o : OrderedOf). o.taken) next, ap (λ (o : OrderedOf). length o.rows.rows) next)
+    let row : get_or rows.rows.rows (number - 1) [] ≡ get_or table.rows place [] =
+    ap (λ n. get_or rows.rows.rows n []) (sym taken) ∙ sym is ∙ ap (λ (r : RowsOf). get_or r.rows place []) (sym stands) in
+    row_number json rows.rows number some inside ∙ ap (row_piece json rows.rows.names (number - 1)) row ∙ ap (λ ns. row_piece json ns (number - 1) (get_or table.rows place [])) named
 
 -- ---- none is empty
 
-some_items : (names : List (List ℕ)) (place : ℕ) (rows : List (List CellValue)) → AllByRecursion (λ piece. 0 < length piece) (json_items names place rows)
-some_items names place [] = (omega arith, tt)
-some_items names place (row ∷ rows) =
-    (omega (arith, length-append (comma_before place) (json_row names row)), some_items names (place + 1) rows)
+abbrev AreSome : List (List ℕ) → Type 0
+AreSome pieces = AllByRecursion (λ piece. 0 < length piece) pieces
 
-some_lines : (rows : List (List CellValue)) → AllByRecursion (λ piece. 0 < length piece) (map row_line rows)
-some_lines [] = tt
-some_lines (row ∷ rows) = (omega (arith, length-append (join_with_byte 44 (map csv_value row)) (13 ∷ 10 ∷ [])), some_lines rows)
+pub some_row : (json : Bool) (names : List (List ℕ)) (values : List CellValue) → 0 < length (printed_row json names values)
+some_row true names values = omega arith
+some_row false names values = omega (arith, length-append (join_with_byte 44 (map csv_value values)) (13 ∷ 10 ∷ []))
 
-pub some_json : (rows : RowsOf) → AllByRecursion (λ piece. 0 < length piece) (json_pieces rows)
-some_json rows = (omega arith, some_items rows.names 0 rows.rows)
+some_rows : (json : Bool) (names : List (List ℕ)) (place : ℕ) (rows : List (List CellValue)) → AreSome (row_pieces json names place rows)
+some_rows json names place [] = tt
+some_rows json names place (row ∷ rows) =
+    (omega (arith, length-append (comma_before (if json then place else 0)) (printed_row json names row), some_row json names row), some_rows json names (suc place) rows)
 
-pub some_csv : (rows : RowsOf) → AllByRecursion (λ piece. 0 < length piece) (csv_pieces rows)
-some_csv rows = (omega (arith, length-append (join_with_byte 44 rows.names) (13 ∷ 10 ∷ [])), some_lines rows.rows)
+some_append : (front back : List (List ℕ)) → AreSome front → AreSome back → AreSome (front ++ back)
+some_append [] back first rest = rest
+some_append (piece ∷ front) back first rest = (first.0, some_append front back first.1 rest)
+
+pub some_body : (json : Bool) (rows : RowsOf) → AreSome (body_pieces json rows)
+some_body true rows = (omega arith, some_append (row_pieces true rows.names 0 rows.rows) (end_pieces true) (some_rows true rows.names 0 rows.rows) (omega arith, tt))
+some_body false rows =
+    (omega (arith, length-append (join_with_byte 44 rows.names) (13 ∷ 10 ∷ [])), some_append (row_pieces false rows.names 0 rows.rows) [] (some_rows false rows.names 0 rows.rows) tt)
+
+some_bytes : (bytes : List ℕ) → AreSome (byte_pieces bytes)
+some_bytes [] = tt
+some_bytes (b ∷ bytes) = (omega arith, tt)
+
+pub some_pieces : (pieces : Pieces) → AllByRecursion (λ piece. 0 < length piece) (cursor_pieces pieces)
+some_pieces (Rows body) = some_body body.json body.rows.rows
+some_pieces (Bytes bytes) = some_bytes bytes.items
+
+pub opening_same : (json : Bool) (one two : RowsOf) → one.names ≡ two.names → one.count ≡ two.count → opening_text json one ≡ opening_text json two
+opening_same true one two names count = ap (λ n. codes "{" ++ json_count n ++ json_text (codes "value") ++ codes ":[") count
+opening_same false one two names count = ap csv_line names
 
 -- ---- all of them
 
--- each after a comma
-abbrev after_commas : List (List ℕ) → List ℕ
-after_commas [] = []
-after_commas (piece ∷ pieces) = 44 ∷ (piece ++ after_commas pieces)
+objects : (names : List (List ℕ)) (place : ℕ) (rows : List (List CellValue)) → concat (row_pieces true names (suc place) rows) ≡ flat_map (λ row. 44 ∷ json_row names row) rows
+objects names place [] = refl
+objects names place (row ∷ rows) =
+    ap (λ comma. (comma ++ json_row names row) ++ concat (row_pieces true names (suc (suc place)) rows)) (comma_after place)
+    ∙ ap (λ l. 44 ∷ (json_row names row ++ l)) (objects names (suc place) rows)
 
-join_is : (piece : List ℕ) (pieces : List (List ℕ)) → join_with_byte 44 (piece ∷ pieces) ≡ piece ++ after_commas pieces
-join_is piece [] = sym (append-nil piece)
-join_is piece (next ∷ pieces) = ap (λ l. piece ++ (44 ∷ l)) (join_is next pieces)
+all_objects : (names : List (List ℕ)) (rows : List (List CellValue)) → concat (row_pieces true names 0 rows) ≡ join_with_byte 44 (map (json_row names) rows)
+all_objects names [] = refl
+all_objects names (row ∷ rows) = ap (λ l. json_row names row ++ l) (objects names 0 rows) ∙ sym (join_is (json_row names) row rows)
 
-pub comma_there : (place : ℕ) → 0 < place → comma_before place ≡ 44 ∷ []
-comma_there zero some = absurd (omega (arith, some))
-comma_there (suc place) some = grind (arith, tests)
+all_lines : (names : List (List ℕ)) (place : ℕ) (rows : List (List CellValue)) → concat (row_pieces false names place rows) ≡ flat_map row_line rows
+all_lines names place [] = refl
+all_lines names place (row ∷ rows) = ap (λ l. row_line row ++ l) (all_lines names (suc place) rows)
 
-later_items : (names : List (List ℕ)) (place : ℕ) (rows : List (List CellValue)) → 0 < place
-    → concat (json_items names place rows) ≡ after_commas (map (json_row names) rows) ++ codes "]}"
-later_items names place [] some = refl
-later_items names place (row ∷ rows) some =
-    let behind = later_items names (place + 1) rows (omega arith) in
-    ap (λ a. (a ++ json_row names row) ++ concat (json_items names (place + 1) rows)) (comma_there place some)
-    ∙ ap (λ b. 44 ∷ (json_row names row ++ b)) behind
-    ∙ ap (λ l. 44 ∷ l) (sym (append_assoc (json_row names row) (after_commas (map (json_row names) rows)) (codes "]}")))
+pub body_is_pieces : (json : Bool) (rows : RowsOf) → concat (body_pieces json rows) ≡ body_text json rows
+body_is_pieces true rows =
+    let all = row_pieces true rows.names 0 rows.rows in
+    ap (λ l. opening_text true rows ++ l) (concat-append all (end_pieces true) ∙ ap (λ l. l ++ codes "]}") (all_objects rows.names rows.rows))
+    ∙ sym (append_assoc (opening_text true rows) (join_with_byte 44 (map (json_row rows.names) rows.rows)) (codes "]}"))
+body_is_pieces false rows =
+    ap (λ l. opening_text false rows ++ l) (ap concat (append-nil (row_pieces false rows.names 0 rows.rows)) ∙ all_lines rows.names 0 rows.rows)
 
-first_items : (names : List (List ℕ)) (rows : List (List CellValue)) → concat (json_items names 0 rows) ≡ join_with_byte 44 (map (json_row names) rows) ++ codes "]}"
-first_items names [] = refl
-first_items names (row ∷ rows) =
-    ap (λ b. json_row names row ++ b) (later_items names 1 rows (omega arith))
-    ∙ sym (append_assoc (json_row names row) (after_commas (map (json_row names) rows)) (codes "]}"))
-    ∙ ap (λ l. l ++ codes "]}") (sym (join_is (json_row names row) (map (json_row names) rows)))
+-- ---- a body that is written until there are too many bytes
 
-pub json_is_pieces : (rows : RowsOf) → concat (json_pieces rows) ≡ rows_text rows
-json_is_pieces rows =
-    ap (λ l. json_opening rows.count ++ l) (first_items rows.names rows.rows)
-    ∙ sym (append_assoc (json_opening rows.count) (join_with_byte 44 (map (json_row rows.names) rows.rows)) (codes "]}"))
+pub rows_more : (json : Bool) (names : List (List ℕ)) (rows : List (List CellValue)) (start before after : List ℕ) (n : ℕ) → before ≡ start ++ concat (take n (row_pieces json names 0 rows))
+    → n < length rows → after ≡ before ++ row_piece json names n (get_or rows n []) → after ≡ start ++ concat (take (n + 1) (row_pieces json names 0 rows))
+rows_more json names rows start before after n so_far within is =
+    let pieces = row_pieces json names 0 rows in
+    let front = concat (take n pieces) in
+    let next = get_or pieces n [] in
+    let all : concat (take (n + 1) pieces) ≡ front ++ next =
+    ap concat (take_more pieces n [] (omega (arith, within, rows_count json names 0 rows))) ∙ concat-append (take n pieces) (next ∷ []) ∙ ap (λ l. front ++ l) (append-nil next) in
+    is ∙ ap (λ l. l ++ row_piece json names n (get_or rows n [])) so_far ∙ append_assoc start front (row_piece json names n (get_or rows n []))
+    ∙ ap (λ l. start ++ (front ++ l)) (sym (row_is_at json names rows n within)) ∙ ap (λ l. start ++ l) (sym all)
 
-pub csv_is_pieces : (rows : RowsOf) → concat (csv_pieces rows) ≡ csv_text rows
-csv_is_pieces rows = ap (λ l. csv_line rows.names ++ l) (flat_is_concat row_line rows.rows)
+pub body_whole : (json : Bool) (rows : RowsOf) (n : ℕ) → length rows.rows ≤ n → (opening_text json rows ++ concat (take n (row_pieces json rows.names 0 rows.rows))) ++ concat (end_pieces json) ≡ body_text json rows
+body_whole json rows n all =
+    let pieces = row_pieces json rows.names 0 rows.rows in
+    append_assoc (opening_text json rows) (concat (take n pieces)) (concat (end_pieces json))
+    ∙ ap (λ l. opening_text json rows ++ (concat l ++ concat (end_pieces json))) (take_all n pieces (omega (arith, all, rows_count json rows.names 0 rows.rows)))
+    ∙ ap (λ l. opening_text json rows ++ l) (sym (concat-append pieces (end_pieces json))) ∙ body_is_pieces json rows
+
+pub body_long : (json : Bool) (rows : RowsOf) (n : ℕ) → length (opening_text json rows ++ concat (take n (row_pieces json rows.names 0 rows.rows))) ≤ length (body_text json rows)
+body_long json rows n =
+    let pieces = row_pieces json rows.names 0 rows.rows in
+    omega (
+      arith,
+      length-append (opening_text json rows) (concat (take n pieces)),
+      concat_front n pieces,
+      ap length (body_is_pieces json rows),
+      length-append (opening_text json rows) (concat (pieces ++ end_pieces json)),
+      ap length (concat-append pieces (end_pieces json)),
+      length-append (concat pieces) (concat (end_pieces json)),
+    )

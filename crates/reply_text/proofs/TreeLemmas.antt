@@ -17,7 +17,7 @@ use Rattle.reply_values.specs.Value.{day_text}
 use Rattle.reply_text.specs.Json.{json_count, json_member, json_row}
 use Rattle.reply_values.specs.Json.{json_text}
 use Rattle.reply_values.specs.Printed.{json_value}
-use Rattle.reply_text.specs.JsonTree.{array_of_rows, body_of, with_count, items_of, json_of, members_of, object_of, CountFits, FitJson, FitsJson}
+use Rattle.reply_text.specs.Laws.{array_of_rows, body_of, with_count, items_of, json_of, members_of, object_of, CountFits, FitJson, FitsJson}
 use Rattle.reply_text.proofs.ByteLemmas.{all-day}
 use Rattle.reply_text.proofs.NumberLemmas.{count_is_number, decimal_is_number, integer_is_number}
 use Rattle.reply_text.proofs.PrintLemmas.{items_text, members_text, print_tree, text_is_quoted, tree_text}

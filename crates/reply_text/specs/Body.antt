@@ -30,7 +30,7 @@ entry_text name = codes "{" ++ named_text name ++ codes "," ++ json_text_member 
 abbrev pub service_text : List TableOf → List ℕ
 service_text tables =
     codes "{" ++ json_text (codes "value") ++ codes ":["
-    ++ join_with_byte 44 (map entry_text (map (λ table. table.schema.name) tables)) ++ codes "]}"
+    ++ join_with_byte 44 (map (λ table. entry_text table.schema.name) tables) ++ codes "]}"
 
 -- an error: its code and its message
 abbrev pub error_text : Code → List ℕ

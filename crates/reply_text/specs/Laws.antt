@@ -1,22 +1,70 @@
--- What holds of the bodies.
-use Rattle.std.specs.Prelude.{◌≡◌, ℕ, ◌-◌, ◌^◌, ◌<◌, ◌≤◌, Bool, false, true, List, [], ◌∷◌, Some, length, map, IsTrue}
-use Rattle.std.specs.List.{All, AllByRecursion, concat}
-use Rattle.std.specs.Fmt.{signed_decimal}
-use Rattle.json.specs.Json.{document}
+-- What holds of the bodies. The values of JSON (RFC 8259) that they are: a text reads as at most one.
+use Rattle.std.specs.Prelude.{◌≡◌, ℕ, ◌-◌, ◌^◌, ◌<◌, ◌≤◌, Bool, false, true, List, [], ◌∷◌, Option, None, Some, codes, length, map, unsigned_abs, IsTrue}
+use Rattle.std.specs.List.{All, AllByRecursion, concat, zip}
+use Rattle.std.specs.Fmt.{decimal, signed_decimal}
+use Rattle.json.specs.Json as json
 use Rattle.csv_grammar.specs.Records.{Field, unquoted, quoted, content, is_plain, AreRecords}
 use Rattle.cell_types.specs.Decimal.{decimal_text}
-use Rattle.cell_types.specs.Value.{CellValue, null, integer, text, boolean, date, decimal}
+use Rattle.cell_types.specs.Value as cell
+use Rattle.cell_types.specs.Value.{CellValue, null, integer, text, boolean, date}
 use Rattle.table_store.specs.Catalog.{FolderOf, CatalogOf, Means}
 use Rattle.result_rows.specs.Rows.{RowsOf, rows_of_table}
+use Rattle.reply_values.specs.Csv.{needs_quotes}
+use Rattle.reply_values.specs.Printed.{json_value}
+use Rattle.reply_values.specs.Size.{told}
 use Rattle.reply_values.specs.Value.{bool_text, day_text}
 use Rattle.reply_text.specs.Body.{rows_text}
 use Rattle.reply_text.specs.Csv.{csv_text}
-use Rattle.reply_values.specs.Csv.{needs_quotes}
 use Rattle.reply_text.specs.Json.{json_row}
-use Rattle.reply_values.specs.Printed.{json_value}
 use Rattle.reply_text.specs.Pieces.{csv_pieces, json_pieces}
-use Rattle.reply_values.specs.Size.{told}
-use Rattle.reply_text.specs.JsonTree.{body_of, json_of, object_of, CountFits, FitJson, FitsJson}
+
+-- what a value is written as: a number has its digits, and a date is a text
+abbrev pub json_of : CellValue → json.Json
+json_of null = json.null
+json_of (integer number) = json.number (signed_decimal number)
+json_of (text bytes) = json.string bytes
+json_of (boolean truth) = json.boolean truth
+json_of (date year month day) = json.string (day_text year month day)
+json_of (cell.decimal millionths) = json.number (decimal_text millionths)
+
+abbrev pub members_of : List (List ℕ × CellValue) → json.Members
+members_of [] = json.no_members
+members_of (member ∷ members) = json.member member.0 (json_of member.1) (members_of members)
+
+-- a row is an object: each name with its value, in order
+abbrev pub object_of : List (List ℕ) → List CellValue → json.Json
+object_of names values = json.object (members_of (zip names values))
+
+abbrev pub items_of : List (List ℕ) → List (List CellValue) → json.Items
+items_of names [] = json.no_items
+items_of names (row ∷ rows) = json.item (object_of names row) (items_of names rows)
+
+-- rows are an array of objects
+abbrev pub array_of_rows : List (List ℕ) → List (List CellValue) → json.Json
+array_of_rows names rows = json.array (items_of names rows)
+
+-- before other members the number of rows, where it was asked for
+abbrev pub with_count : Option ℕ → json.Members → json.Members
+with_count None members = members
+with_count (Some n) members = json.member (codes "@odata.count") (json.number (decimal n)) members
+
+-- the body of rows
+abbrev pub body_of : List (List ℕ) → List (List CellValue) → Option ℕ → json.Json
+body_of names rows count = json.object (with_count count (json.member (codes "value") (array_of_rows names rows) json.no_members))
+
+-- numbers of no more than 64 digits, as all of 128 bits are, and days whose numbers have their places
+abbrev pub FitsJson : CellValue → Type 0
+FitsJson (integer number) = unsigned_abs number < 10 ^ 64
+FitsJson (date year month day) = (unsigned_abs year < 10_000) × (month < 100) × (day < 100)
+FitsJson (cell.decimal millionths) = unsigned_abs millionths < 10 ^ 64
+FitsJson value = Unit {0}
+
+abbrev pub FitJson : List (List CellValue) → Type 0
+FitJson rows = AllByRecursion (AllByRecursion FitsJson) rows
+
+abbrev pub CountFits : Option ℕ → Type 0
+CountFits None = Unit {0}
+CountFits (Some n) = n < 10 ^ 64
 
 -- the text of a value; null has the empty one
 abbrev pub value_text : CellValue → List ℕ
@@ -25,16 +73,12 @@ value_text (integer number) = signed_decimal number
 value_text (text bytes) = bytes
 value_text (boolean truth) = bool_text truth
 value_text (date year month day) = day_text year month day
-value_text (decimal millionths) = decimal_text millionths
+value_text (cell.decimal millionths) = decimal_text millionths
 
 -- whether a value stands in double quotes: a text that is empty or has a double quote, a comma, a CR or an LF, and nothing else
 abbrev pub value_is_quoted : CellValue → Bool
-value_is_quoted null = false
-value_is_quoted (integer number) = false
 value_is_quoted (text bytes) = needs_quotes bytes
-value_is_quoted (boolean truth) = false
-value_is_quoted (date year month day) = false
-value_is_quoted (decimal millionths) = false
+value_is_quoted value = false
 
 -- whether a field stands in double quotes
 abbrev pub is_quoted : Field → Bool
@@ -70,9 +114,9 @@ TablesFitCsv = (folder : FolderOf) (catalog : CatalogOf) → 1 ≤ folder.limits
 -- What we publish as JSON, a reader of JSON (RFC 8259) gives back: the text of a value, of a row and of the body of rows is that of one value of JSON, which has the
 -- names, texts and digits that were written, each once and in order.
 pub record JsonReadsBack : Type 0 where
-  pub values : (value : CellValue) → FitsJson value → document (json_value value) ≡ Some (json_of value)
-  pub rows : (names : List (List ℕ)) (values : List CellValue) → AllByRecursion FitsJson values → document (json_row names values) ≡ Some (object_of names values)
-  pub bodies : (rows : RowsOf) → FitJson rows.rows → CountFits rows.count → document (rows_text rows) ≡ Some (body_of rows.names rows.rows rows.count)
+  pub values : (value : CellValue) → FitsJson value → json.document (json_value value) ≡ Some (json_of value)
+  pub rows : (names : List (List ℕ)) (values : List CellValue) → AllByRecursion FitsJson values → json.document (json_row names values) ≡ Some (object_of names values)
+  pub bodies : (rows : RowsOf) → FitJson rows.rows → CountFits rows.count → json.document (rows_text rows) ≡ Some (body_of rows.names rows.rows rows.count)
 
 -- A number of bytes that is counted is the number of bytes that are written, if it is less than the greatest of 64 bits; and each that 64 bits have is
 -- counted so.

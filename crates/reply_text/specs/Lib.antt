@@ -1,11 +1,8 @@
 pub mod Json
-pub mod JsonTree
 pub mod Body
 pub mod Csv
-pub mod Size
 pub mod Pieces
 pub mod RowSizes
-pub mod Cursor
 pub mod Inside
 pub mod Laws
 pub mod Waiting

@@ -1,29 +1,43 @@
--- The pieces that the bodies of rows are written in: what comes before the rows, each row, what comes after them.
-use Rattle.std.specs.Prelude.{◌≡◌, ◌≤◌, ℕ, ◌+◌, List, [], ◌∷◌, ◌++◌, Option, codes, length, map, max}
+-- Bodies of rows in JSON or in CSV, and the pieces that they are written in: what comes before the rows, each row, what comes after them.
+use Rattle.std.specs.Prelude.{◌≡◌, ◌≤◌, ℕ, suc, ◌+◌, Bool, true, false, List, [], ◌∷◌, ◌++◌, codes, length, max, if◌then◌else◌}
 use Rattle.std.specs.List.{concat}
 use Rattle.cell_types.specs.Value.{CellValue}
 use Rattle.result_rows.specs.Rows.{RowsOf}
-use Rattle.reply_text.specs.Csv.{csv_line, row_line}
+use Rattle.reply_text.specs.Body.{rows_text}
+use Rattle.reply_text.specs.Csv.{csv_line, csv_text, row_line}
 use Rattle.reply_text.specs.Json.{comma_before, json_count, json_row}
 use Rattle.reply_values.specs.Json.{json_text}
 use Rattle.reply_values.specs.Size.{told}
 
--- what stands before the rows of a JSON object
-abbrev pub json_opening : Option ℕ → List ℕ
-json_opening count = codes "{" ++ json_count count ++ json_text (codes "value") ++ codes ":["
+abbrev pub body_text : Bool → RowsOf → List ℕ
+body_text json rows = if json then rows_text rows else csv_text rows
 
--- rows as objects from that place on, each after its comma, and what stands after them
-abbrev pub json_items : List (List ℕ) → ℕ → List (List CellValue) → List (List ℕ)
-json_items names place [] = codes "]}" ∷ []
-json_items names place (row ∷ rows) = (comma_before place ++ json_row names row) ∷ json_items names (place + 1) rows
+-- what comes before the rows: in CSV the line of the names
+abbrev pub opening_text : Bool → RowsOf → List ℕ
+opening_text json rows = if json then codes "{" ++ json_count rows.count ++ json_text (codes "value") ++ codes ":[" else csv_line rows.names
 
--- the body of rows as a JSON object
+-- a row
+abbrev pub printed_row : Bool → List (List ℕ) → List CellValue → List ℕ
+printed_row json names row = if json then json_row names row else row_line row
+
+-- a row, in JSON after a comma but for the first
+abbrev pub row_piece : Bool → List (List ℕ) → ℕ → List CellValue → List ℕ
+row_piece json names place row = comma_before (if json then place else 0) ++ printed_row json names row
+
+-- the rows from that place on
+abbrev pub row_pieces : Bool → List (List ℕ) → ℕ → List (List CellValue) → List (List ℕ)
+row_pieces json names place [] = []
+row_pieces json names place (row ∷ rows) = row_piece json names place row ∷ row_pieces json names (suc place) rows
+
+-- all, with what comes after the rows
+abbrev pub body_pieces : Bool → RowsOf → List (List ℕ)
+body_pieces json rows = opening_text json rows ∷ (row_pieces json rows.names 0 rows.rows ++ (if json then codes "]}" ∷ [] else []))
+
 abbrev pub json_pieces : RowsOf → List (List ℕ)
-json_pieces rows = json_opening rows.count ∷ json_items rows.names 0 rows.rows
+json_pieces rows = body_pieces true rows
 
--- the body of rows as CSV: lines
 abbrev pub csv_pieces : RowsOf → List (List ℕ)
-csv_pieces rows = csv_line rows.names ∷ map row_line rows.rows
+csv_pieces rows = body_pieces false rows
 
 -- how long the longest is
 abbrev pub longest_of : List (List ℕ) → ℕ
@@ -38,10 +52,4 @@ pub record AreSizesOf (pieces : List (List ℕ)) (all longest : ℕ) : Type 0 wh
 -- a number of bytes that no piece passes, and at most 2 more than the longest of them has
 pub record IsNearLongest (pieces : List (List ℕ)) (longest : ℕ) : Type 0 where
   pub least : longest_of pieces ≤ longest
-  pub most : longest ≤ longest_of pieces + 2
-
--- how many bytes they take in all, and a number of bytes near to that of the longest of them, as 64 bits tell it
-pub record AreSizesWithin (pieces : List (List ℕ)) (all longest : ℕ) : Type 0 where
-  pub counted : all ≡ told (length (concat pieces))
-  pub least : told (longest_of pieces) ≤ longest
   pub most : longest ≤ longest_of pieces + 2

@@ -3,9 +3,10 @@ ghost use Rattle.std.specs.Prelude.{◌≡◌, ◌<◌, ◌++◌, OnOk, IfNone, 
 ghost use Rattle.std.specs.Fmt.{decimal};
 ghost use Rattle.std.specs.List.{join_with_byte};
 ghost use Rattle.reply_text.specs.Body.{entry_text, error_text, named_text, row_text, rows_text, service_text};
-ghost use Rattle.reply_values.specs.Size.{told};
+ghost use Rattle.reply_text.specs.Csv.{csv_text};
 
-use crate::json_rows::{push_comma, push_opening, push_row, push_rows};
+use crate::opening::push_comma;
+use crate::push_rows::{push_rows, short_body};
 use odata_errors::Code;
 use reply_values::{push_number, push_text, push_text_member};
 use result_rows::Rows;
@@ -16,11 +17,7 @@ use table_store::{Catalog, Table};
 pub fn json_body(alloc: Global, rows: &Rows) -> Result<Vec<u8>, AllocError>
     ensures { IfOk result (λ body. body.items ≡ rows_text rows.now) }
 {
-    let mut body = Vec::new(alloc);
-    push_opening(&mut body, rows.count())?;
-    push_rows(&mut body, rows, usize::MAX)?;
-    body.extend_from_slice(b"]}")?;
-    Ok(body)
+    short_body::<true>(alloc, rows, usize::MAX)?.ok_or(AllocError)
 }
 
 /// Returns rows as JSON, as [`json_body`] does, or `None` if that has more than `most` bytes.
@@ -32,14 +29,26 @@ pub fn short_json_body(
     ensures body { IfOk result (λ body. IfSome body (λ bytes. bytes.items ≡ rows_text rows.now)) }
     ensures long { IfOk result (λ body. IfNone body (most < length (rows_text rows.now))) }
 {
-    let mut body = Vec::new(alloc);
-    push_opening(&mut body, rows.count())?;
-    let count = push_rows(&mut body, rows, most)?;
-    if count < rows.len() {
-        return Ok(None);
-    }
-    body.extend_from_slice(b"]}")?;
-    Ok(Some(body))
+    short_body::<true>(alloc, rows, most)
+}
+
+/// Returns rows as CSV: a line of the names, and a line for each row, each ended by CR LF.
+pub fn csv_body(alloc: Global, rows: &Rows) -> Result<Vec<u8>, AllocError>
+    ensures { IfOk result (λ body. body.items ≡ csv_text rows.now) }
+{
+    short_body::<false>(alloc, rows, usize::MAX)?.ok_or(AllocError)
+}
+
+/// Returns rows as CSV, as [`csv_body`] does, or `None` if that has more than `most` bytes.
+pub fn short_csv_body(
+    alloc: Global,
+    rows: &Rows,
+    most: usize,
+) -> Result<Option<Vec<u8>>, AllocError>
+    ensures body { IfOk result (λ body. IfSome body (λ bytes. bytes.items ≡ csv_text rows.now)) }
+    ensures long { IfOk result (λ body. IfNone body (most < length (csv_text rows.now))) }
+{
+    short_body::<false>(alloc, rows, most)
 }
 
 /// Returns the one row as a JSON object (OData 4.01 JSON Format, section 6).
@@ -48,7 +57,7 @@ pub fn row_body(alloc: Global, rows: &Rows) -> Result<Vec<u8>, AllocError>
     ensures { IfOk result (λ body. body.items ≡ row_text rows.now) }
 {
     let mut body = Vec::new(alloc);
-    push_row(&mut body, rows)?;
+    push_rows::<true>(&mut body, rows, usize::MAX)?;
     Ok(body)
 }
 
@@ -84,7 +93,7 @@ fn push_entry(out: &mut Vec<u8>, name: &[u8]) -> Result<(), AllocError>
 /// Appends the entries of tables, with a comma between each two.
 fn push_entries(out: &mut Vec<u8>, tables: &[Table]) -> Result<(), AllocError>
     ensures { OnOk result (out.new.items ≡ out.old.items
-        ++ join_with_byte 44 (map entry_text (map (λ table. table.schema.name) tables.now))) }
+        ++ join_with_byte 44 (map (λ table. entry_text table.schema.name) tables.now)) }
 {
     for (place, table) in tables.iter().enumerate() {
         push_comma(out, place)?;

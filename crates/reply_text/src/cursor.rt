@@ -3,16 +3,13 @@ ghost use Rattle.std.specs.Prelude.{◌≡◌, ◌+◌, ◌++◌, ◌==◌, ◌<
 ghost use Rattle.std.specs.List.{concat};
 ghost use Rattle.reply_text.specs.Body.{rows_text};
 ghost use Rattle.reply_text.specs.Csv.{csv_text};
-ghost use Rattle.reply_text.specs.Inside.{body_pieces, AreWrittenTo, MayLay};
-ghost use Rattle.reply_text.specs.Pieces.{csv_pieces, json_pieces, AreSizesWithin, IsNearLongest};
-ghost use Rattle.reply_text.specs.RowSizes.{HaveCsvSizes, HaveJsonSizes};
+ghost use Rattle.reply_text.specs.Inside.{cursor_pieces, IsAt};
+ghost use Rattle.reply_text.specs.Pieces.{body_pieces, body_text, csv_pieces, json_pieces, IsNearLongest};
+ghost use Rattle.reply_text.specs.RowSizes.{HaveCsvSizes, HaveJsonSizes, HaveSizes};
 
-use crate::csv_sizes::csv_sizes;
-use crate::json_rows::{heads_of, push_opening};
-use crate::json_sizes::json_sizes;
-use crate::pieces::{JsonRows, Pieces};
+use crate::opening::{heads_of, push_opening};
+use crate::pieces::{Pieces, RowPieces};
 use crate::row_sizes::RowSizes;
-use crate::sizes::Sizes;
 use cell_texts::RowTurns;
 use result_rows::OrderedRows;
 use std::alloc::{AllocError, Global};
@@ -30,7 +27,7 @@ pub struct BodyCursor {
 }
 
 impl Model for BodyCursor {
-    ghost use Rattle.reply_text.specs.Cursor.{BodyRest};
+    ghost use Rattle.reply_text.specs.Waiting.{BodyRest};
 
     ghost Value = { BodyRest };
 
@@ -41,19 +38,33 @@ impl Model for BodyCursor {
     ghost invariant = { IsAtPiece };
 }
 
-/// Returns a body of pieces with the number of their bytes. `Err` if that has more than 64 bits.
-fn of_pieces(pieces: Pieces, sizes: Sizes) -> Result<BodyCursor, AllocError>
-    requires lays { MayLay pieces }
-    requires taken { AreWrittenTo pieces 0 }
-    requires sizes { AreSizesWithin (body_pieces pieces) sizes.all sizes.longest }
-    ensures bytes { IfOk result (λ body. body.bytes ≡ concat (body_pieces pieces)) }
-    ensures longest { IfOk result (λ body. IsNearLongest (body_pieces pieces) body.longest) }
+/// Returns the body of rows, of which some were counted.
+fn of_rows<const JSON: bool>(
+    alloc: Global,
+    rows: OrderedRows,
+    counted: RowSizes,
+) -> Result<BodyCursor, AllocError>
+    requires counted { HaveSizes JSON counted rows.rows }
+    requires untaken { rows.taken ≡ 0 }
+    ensures bytes { IfOk result (λ body. body.bytes ≡ body_text JSON rows.rows) }
+    ensures longest { IfOk result
+        (λ body. IsNearLongest (body_pieces JSON rows.rows) body.longest) }
 {
+    let heads = heads_of::<JSON>(alloc, rows.table().names())?;
+    let mut opening = Vec::new(alloc);
+    push_opening::<JSON>(&mut opening, rows.table())?;
+    let sizes = counted.of_body::<JSON>(&rows, opening.len());
     if sizes.all == usize::MAX {
         return Err(AllocError);
     }
+    let body = RowPieces {
+        json: JSON,
+        rows: RowTurns::of(rows),
+        heads,
+        opening,
+    };
     Ok(BodyCursor {
-        pieces,
+        pieces: Pieces::Rows(body),
         next: 0,
         size: sizes.all,
         longest: sizes.longest,
@@ -62,7 +73,7 @@ fn of_pieces(pieces: Pieces, sizes: Sizes) -> Result<BodyCursor, AllocError>
 
 impl BodyCursor {
     /// Returns rows, of which some were counted, as a JSON object whose member `value` has an object for each row (OData 4.01 JSON Format, section 13): what
-    /// stands before the rows, each row, what stands after them. At an `Err` memory ran out, or the body has more bytes than 64 bits tell.
+    /// comes before the rows, each row, what comes after them. At an `Err` memory ran out, or the number of bytes has more than 64 bits.
     pub fn json_counted(
         alloc: Global,
         rows: OrderedRows,
@@ -74,29 +85,23 @@ impl BodyCursor {
         ensures longest { IfOk result
             (λ body. IsNearLongest (json_pieces rows.rows) body.longest) }
     {
-        let table = rows.table();
-        let heads = heads_of(alloc, table.names())?;
-        let mut opening = Vec::new(alloc);
-        push_opening(&mut opening, table.count())?;
-        let sizes = json_sizes(&rows, counted);
-        let json = JsonRows {
-            rows: RowTurns::of(rows),
-            heads,
-            opening,
-        };
-        of_pieces(Pieces::Json(json), sizes)
+        of_rows::<true>(alloc, rows, counted)
     }
 
-    /// Returns rows, of which some were counted, as CSV: the line of the names, and a line for each row. At an `Err` the body has more bytes than 64 bits tell.
-    pub fn csv_counted(rows: OrderedRows, counted: RowSizes) -> Result<BodyCursor, AllocError>
+    /// Returns rows, of which some were counted, as CSV: the line of the names, and a line for each row. At an `Err` memory ran out, or the number of bytes has more
+    /// than 64 bits.
+    pub fn csv_counted(
+        alloc: Global,
+        rows: OrderedRows,
+        counted: RowSizes,
+    ) -> Result<BodyCursor, AllocError>
         requires counted { HaveCsvSizes counted rows.rows }
         requires untaken { rows.taken ≡ 0 }
         ensures bytes { IfOk result (λ body. body.bytes ≡ csv_text rows.rows) }
         ensures longest { IfOk result
             (λ body. IsNearLongest (csv_pieces rows.rows) body.longest) }
     {
-        let sizes = csv_sizes(&rows, counted);
-        of_pieces(Pieces::Csv(RowTurns::of(rows)), sizes)
+        of_rows::<false>(alloc, rows, counted)
     }
 
     /// Returns bytes that are there, as one piece.

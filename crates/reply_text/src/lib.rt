@@ -4,22 +4,20 @@
 #![tactic(auto)]
 
 mod body;
-mod counted;
-mod csv_rows;
-mod csv_sizes;
 mod cursor;
-mod json_rows;
-mod json_sizes;
 mod laws;
+mod opening;
 mod output;
 mod pieces;
+mod push_rows;
 mod put_rows;
 mod reply;
 mod row_sizes;
-mod sizes;
 
-pub use body::{error_body, json_body, number_body, row_body, service_body, short_json_body};
-pub use csv_rows::{csv_body, short_csv_body};
+pub use body::{
+    csv_body, error_body, json_body, number_body, row_body, service_body, short_csv_body,
+    short_json_body,
+};
 pub use cursor::BodyCursor;
 pub use laws::{
     counts_are_lengths, csv_reads_back, json_reads_back, pieces_are_bodies, tables_fit_csv,

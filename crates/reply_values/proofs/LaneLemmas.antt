@@ -1,5 +1,5 @@
 -- From the mask of a block to the first of its bytes that passes a test.
-use Rattle.std.proofs.Common.{◌≡◌, ℕ, ◌+◌, ◌%◌, ◌^◌, ◌≤◌, Bool, true, cond, eqb, List, [], ◌∷◌, map, length, get_or, take, drop, Fits, w8, refl, ap, ap₂, ◌∙◌, arith}
+use Rattle.std.proofs.Common.{◌≡◌, ℕ, ◌+◌, ◌%◌, ◌^◌, ◌≤◌, Bool, true, cond, eqb, not, tests, List, [], ◌∷◌, map, length, get_or, take, drop, Fits, w8, refl, ap, ap₂, ◌∙◌, arith}
 use Rattle.std.specs.Int.{trailing_zeros, w64}
 use Rattle.std.specs.List.{position_or_len}
 use Rattle.std.specs.Simd.Lanes.{Each1, chunk, mask_l, top}
@@ -25,3 +25,7 @@ first_in_block p text at n lane lanes first most room fits computed same found =
     let word : mask_l (map (top 7) lanes) % 2 ^ 64 ≡ mask_l (map p block) =
     ap (λ l. mask_l l % 2 ^ 64) tests ∙ mask_l-mod (map p block) 64 (omega (arith, length-map block p, long, most)) in
     found ∙ ap (λ m. cond (eqb m 0) n (trailing_zeros w64 m)) word ∙ first_set_mask_l p block n long most
+
+-- a flag that is not 0
+pub is_set : (n : ℕ) → (n ≡ 0 → ⊥) → not (eqb n 0) ≡ true
+is_set n other = grind (arith, tests, other)

@@ -2,8 +2,7 @@
 ghost use Rattle.std.specs.Prelude.{◌≡◌, ◌==◌, ◌+◌, ◌≤◌, if◌then◌else◌, drop, length, take};
 ghost use Rattle.std.specs.Int.{trailing_zeros, w64};
 ghost use Rattle.std.specs.List.{position_or_len};
-ghost use Rattle.reply_values.specs.Csv.{is_quoted_byte};
-ghost use Rattle.reply_values.specs.Json.{needs_escape};
+ghost use Rattle.reply_values.specs.Printed.{needs_more};
 
 use std::simd::prelude::*;
 
@@ -19,31 +18,21 @@ fn first_set(mask: u64, lanes: usize) -> usize
     }
 }
 
-/// Returns how many bytes stand in the block from `at` on before the first that needs an escape.
+/// Returns how many bytes of the block from `at` on come before the first that does not stand for itself.
 #[inline(always)]
-pub fn unescaped_in<const N: usize>(text: &[u8], at: usize) -> usize
+pub fn run_in<const JSON: bool, const N: usize>(text: &[u8], at: usize) -> usize
     requires most { N ≤ 64 }
     requires room { at + N ≤ length text.now }
-    ensures { result ≡ position_or_len needs_escape (take N (drop at text.now)) }
+    ensures { result ≡ position_or_len (needs_more JSON) (take N (drop at text.now)) }
 {
     let block = Simd::<u8, N>::from_slice(&text[at..]);
-    let escaped = block.simd_eq(Simd::splat(b'"'))
-        | block.simd_eq(Simd::splat(b'\\'))
-        | block.simd_lt(Simd::splat(0x20));
-    first_set(escaped.to_bitmask(), N)
-}
-
-/// Returns how many bytes stand in the block from `at` on before the first that stands in double quotes alone.
-#[inline(always)]
-pub fn unquoted_in<const N: usize>(text: &[u8], at: usize) -> usize
-    requires most { N ≤ 64 }
-    requires room { at + N ≤ length text.now }
-    ensures { result ≡ position_or_len is_quoted_byte (take N (drop at text.now)) }
-{
-    let block = Simd::<u8, N>::from_slice(&text[at..]);
-    let quoted = block.simd_eq(Simd::splat(b'"'))
-        | block.simd_eq(Simd::splat(b','))
-        | block.simd_eq(Simd::splat(b'\r'))
-        | block.simd_eq(Simd::splat(b'\n'));
-    first_set(quoted.to_bitmask(), N)
+    let quotes = block.simd_eq(Simd::splat(b'"'));
+    if JSON {
+        let others = block.simd_eq(Simd::splat(b'\\')) | block.simd_lt(Simd::splat(0x20));
+        first_set((quotes | others).to_bitmask(), N)
+    } else {
+        let breaks = block.simd_eq(Simd::splat(b'\r')) | block.simd_eq(Simd::splat(b'\n'));
+        let others = block.simd_eq(Simd::splat(b',')) | breaks;
+        first_set((quotes | others).to_bitmask(), N)
+    }
 }

@@ -5,6 +5,7 @@ ghost use Rattle.jiff_fmt.specs.Text.{date_text};
 ghost use Rattle.cell_types.specs.Decimal.{decimal_text, fraction_text, millionths_text};
 ghost use Rattle.reply_values.specs.Printed.{printed_date};
 ghost use Rattle.reply_values.specs.Value.{bool_text};
+ghost use Rattle.reply_values.specs.Size.{IsWrittenAt};
 
 use crate::decimal::{ONE, four_digits, six_digits, two_digits, without_last_zeros};
 use crate::room::{put_block, put_byte, put_piece};
@@ -17,61 +18,44 @@ use jiff_core::civil::Date;
 fn put_short(out: &mut [u8], at: usize, number: u64) -> usize
     requires few { number < 10_000 }
     requires room { at + length (decimal number) ≤ length out.old }
-    ensures long { length out.new ≡ length out.old }
-    ensures bytes { take result out.new ≡ take at out.old ++ decimal number }
-    ensures end { result ≡ at + length (decimal number) }
+    ensures { IsWrittenAt out.old out.new at result (decimal number) }
 {
     let [a, b, c, d] = four_digits(number);
     if number < 10 {
-        put_block::<1>(out, at, &[d], 1)
+        put_block::<1>(out, at, &[d])
     } else if number < 100 {
-        put_block::<2>(out, at, &[c, d], 2)
+        put_block::<2>(out, at, &[c, d])
     } else if number < 1_000 {
-        put_block::<3>(out, at, &[b, c, d], 3)
+        put_block::<3>(out, at, &[b, c, d])
     } else {
-        put_block::<4>(out, at, &[a, b, c, d], 4)
+        put_block::<4>(out, at, &[a, b, c, d])
     }
 }
 
 /// Writes a number in decimal digits, four at a time.
 pub fn put_number(out: &mut [u8], at: usize, number: u64) -> usize
     requires { at + length (decimal number) ≤ length out.old }
-    ensures long { length out.new ≡ length out.old }
-    ensures bytes { take result out.new ≡ take at out.old ++ decimal number }
-    ensures end { result ≡ at + length (decimal number) }
+    ensures { IsWrittenAt out.old out.new at result (decimal number) }
 {
     if number < 10_000 {
         return put_short(out, at, number);
     }
     let end = put_number(out, at, number / 10_000);
-    put_block::<4>(out, end, &four_digits(number % 10_000), 4)
-}
-
-/// Writes a whole number of 64 bits in decimal digits, with a `-` if it is negative.
-#[inline(always)]
-fn put_short_integer(out: &mut [u8], at: usize, number: i64) -> usize
-    requires { at + length (signed_decimal number) ≤ length out.old }
-    ensures long { length out.new ≡ length out.old }
-    ensures bytes { take result out.new ≡ take at out.old ++ signed_decimal number }
-    ensures end { result ≡ at + length (signed_decimal number) }
-{
-    if number >= 0 {
-        return put_number(out, at, number.unsigned_abs());
-    }
-    let end = put_byte(out, at, b'-');
-    put_number(out, end, number.unsigned_abs())
+    put_block::<4>(out, end, &four_digits(number % 10_000))
 }
 
 /// Writes a whole number in decimal digits, with a `-` if it is negative.
 #[inline(always)]
 pub fn put_integer(out: &mut [u8], at: usize, number: i128) -> usize
     requires { at + length (signed_decimal number) ≤ length out.old }
-    ensures long { length out.new ≡ length out.old }
-    ensures bytes { take result out.new ≡ take at out.old ++ signed_decimal number }
-    ensures end { result ≡ at + length (signed_decimal number) }
+    ensures { IsWrittenAt out.old out.new at result (signed_decimal number) }
 {
     match i64::try_from(number) {
-        Ok(short) => put_short_integer(out, at, short),
+        Ok(short) if short >= 0 => put_number(out, at, short.unsigned_abs()),
+        Ok(short) => {
+            let end = put_byte(out, at, b'-');
+            put_number(out, end, short.unsigned_abs())
+        }
         Err(_) => put_piece(out, at, Buffer::new().format(number).as_bytes()),
     }
 }
@@ -81,9 +65,7 @@ pub fn put_integer(out: &mut [u8], at: usize, number: i128) -> usize
 fn put_fraction(out: &mut [u8], at: usize, number: u32) -> usize
     requires few { number < 1_000_000 }
     requires room { at + length (fraction_text number) ≤ length out.old }
-    ensures long { length out.new ≡ length out.old }
-    ensures bytes { take result out.new ≡ take at out.old ++ fraction_text number }
-    ensures end { result ≡ at + length (fraction_text number) }
+    ensures { IsWrittenAt out.old out.new at result (fraction_text number) }
 {
     if number == 0 {
         return at;
@@ -96,9 +78,7 @@ fn put_fraction(out: &mut [u8], at: usize, number: u32) -> usize
 #[inline(always)]
 fn put_millionths(out: &mut [u8], at: usize, number: u128) -> usize
     requires { at + length (millionths_text number) ≤ length out.old }
-    ensures long { length out.new ≡ length out.old }
-    ensures bytes { take result out.new ≡ take at out.old ++ millionths_text number }
-    ensures end { result ≡ at + length (millionths_text number) }
+    ensures { IsWrittenAt out.old out.new at result (millionths_text number) }
 {
     match u64::try_from(number) {
         Ok(short) => {
@@ -117,9 +97,7 @@ fn put_millionths(out: &mut [u8], at: usize, number: u128) -> usize
 #[inline(always)]
 pub fn put_decimal(out: &mut [u8], at: usize, millionths: i128) -> usize
     requires { at + length (decimal_text millionths) ≤ length out.old }
-    ensures long { length out.new ≡ length out.old }
-    ensures bytes { take result out.new ≡ take at out.old ++ decimal_text millionths }
-    ensures end { result ≡ at + length (decimal_text millionths) }
+    ensures { IsWrittenAt out.old out.new at result (decimal_text millionths) }
 {
     if millionths >= 0 {
         return put_millionths(out, at, millionths.unsigned_abs());
@@ -132,14 +110,12 @@ pub fn put_decimal(out: &mut [u8], at: usize, millionths: i128) -> usize
 #[inline(always)]
 pub fn put_bool(out: &mut [u8], at: usize, truth: bool) -> usize
     requires { at + length (bool_text truth) ≤ length out.old }
-    ensures long { length out.new ≡ length out.old }
-    ensures bytes { take result out.new ≡ take at out.old ++ bool_text truth }
-    ensures end { result ≡ at + length (bool_text truth) }
+    ensures { IsWrittenAt out.old out.new at result (bool_text truth) }
 {
     if truth {
-        put_block::<4>(out, at, b"true", 4)
+        put_block::<4>(out, at, b"true")
     } else {
-        put_block::<5>(out, at, b"false", 5)
+        put_block::<5>(out, at, b"false")
     }
 }
 
@@ -147,9 +123,7 @@ pub fn put_bool(out: &mut [u8], at: usize, truth: bool) -> usize
 #[inline(always)]
 fn put_day(out: &mut [u8], at: usize, date: Date) -> usize
     requires { at + length (date_text date) ≤ length out.old }
-    ensures long { length out.new ≡ length out.old }
-    ensures bytes { take result out.new ≡ take at out.old ++ date_text date }
-    ensures end { result ≡ at + length (date_text date) }
+    ensures { IsWrittenAt out.old out.new at result (date_text date) }
 {
     let year = date.year.unsigned_abs();
     let [a, b] = two_digits((year / 100) as u8);
@@ -161,10 +135,9 @@ fn put_day(out: &mut [u8], at: usize, date: Date) -> usize
             out,
             at,
             &[b'-', b'0', b'0', a, b, c, d, b'-', e, f, b'-', g, h],
-            13,
         )
     } else {
-        put_block::<10>(out, at, &[a, b, c, d, b'-', e, f, b'-', g, h], 10)
+        put_block::<10>(out, at, &[a, b, c, d, b'-', e, f, b'-', g, h])
     }
 }
 
@@ -172,9 +145,7 @@ fn put_day(out: &mut [u8], at: usize, date: Date) -> usize
 #[inline(always)]
 pub fn put_date<const JSON: bool>(out: &mut [u8], at: usize, date: Date) -> usize
     requires { at + length (printed_date JSON (date_text date)) ≤ length out.old }
-    ensures long { length out.new ≡ length out.old }
-    ensures bytes { take result out.new ≡ take at out.old ++ printed_date JSON (date_text date) }
-    ensures end { result ≡ at + length (printed_date JSON (date_text date)) }
+    ensures { IsWrittenAt out.old out.new at result (printed_date JSON (date_text date)) }
 {
     if !JSON {
         return put_day(out, at, date);

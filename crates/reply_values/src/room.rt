@@ -1,32 +1,28 @@
 //! Bytes written into room that is there.
 ghost use Rattle.std.specs.Prelude.{◌≡◌, ◌+◌, ◌++◌, ◌∷◌, [], ◌<◌, ◌≤◌, IfOk, OnErr, length, take, vec_capacity, vec_len};
+ghost use Rattle.reply_values.specs.Size.{IsWrittenAt};
 
 use std::alloc::AllocError;
 
-/// Writes the first `len` bytes of a block.
+/// Writes the first `N` bytes of a block.
 #[inline(always)]
-#[tactic(auto, using(crate::proofs::PutLemmas::copied))]
-pub fn put_block<const N: usize>(out: &mut [u8], at: usize, block: &[u8], len: usize) -> usize
-    requires len { len ≤ N }
+#[tactic(auto, using(crate::proofs::PutLemmas::copied, crate::proofs::PutLemmas::front_long))]
+pub fn put_block<const N: usize>(out: &mut [u8], at: usize, block: &[u8]) -> usize
     requires block { N ≤ length block.now }
     requires room { at + N ≤ length out.old }
-    ensures long { length out.new ≡ length out.old }
-    ensures bytes { take result out.new ≡ take at out.old ++ take len block.now }
-    ensures end { result ≡ at + len }
+    ensures { IsWrittenAt out.old out.new at result (take N block.now) }
 {
     out[at..at + N].copy_from_slice(&block[..N]);
-    at + len
+    at + N
 }
 
 /// Writes a byte.
 #[inline(always)]
 pub fn put_byte(out: &mut [u8], at: usize, byte: u8) -> usize
     requires { at < length out.old }
-    ensures long { length out.new ≡ length out.old }
-    ensures bytes { take result out.new ≡ take at out.old ++ byte ∷ [] }
-    ensures end { result ≡ at + 1 }
+    ensures { IsWrittenAt out.old out.new at result (byte ∷ []) }
 {
-    put_block::<1>(out, at, &[byte], 1)
+    put_block::<1>(out, at, &[byte])
 }
 
 /// Writes bytes that have one block at least and two at most. The second ends where they do, over bytes of the first.
@@ -35,34 +31,19 @@ fn put_by<const N: usize>(out: &mut [u8], at: usize, bytes: &[u8]) -> usize
     requires some { N ≤ length bytes.now }
     requires most { length bytes.now ≤ N + N }
     requires room { at + length bytes.now ≤ length out.old }
-    ensures long { length out.new ≡ length out.old }
-    ensures bytes { take result out.new ≡ take at out.old ++ bytes.now }
-    ensures end { result ≡ at + length bytes.now }
+    ensures { IsWrittenAt out.old out.new at result bytes.now }
 {
     let last = bytes.len() - N;
-    put_block::<N>(out, at, bytes, N);
-    put_block::<N>(out, at + last, &bytes[last..], N)
-}
-
-/// Writes bytes.
-#[tactic(auto, using(crate::proofs::PutLemmas::copied_whole))]
-fn put_long_piece(out: &mut [u8], at: usize, bytes: &[u8]) -> usize
-    requires { at + length bytes.now ≤ length out.old }
-    ensures long { length out.new ≡ length out.old }
-    ensures bytes { take result out.new ≡ take at out.old ++ bytes.now }
-    ensures end { result ≡ at + length bytes.now }
-{
-    out[at..at + bytes.len()].copy_from_slice(bytes);
-    at + bytes.len()
+    put_block::<N>(out, at, bytes);
+    put_block::<N>(out, at + last, &bytes[last..])
 }
 
 /// Writes bytes, which are mostly few.
 #[inline(always)]
+#[tactic(auto, using(crate::proofs::PutLemmas::copied_whole))]
 pub fn put_piece(out: &mut [u8], at: usize, bytes: &[u8]) -> usize
     requires { at + length bytes.now ≤ length out.old }
-    ensures long { length out.new ≡ length out.old }
-    ensures bytes { take result out.new ≡ take at out.old ++ bytes.now }
-    ensures end { result ≡ at + length bytes.now }
+    ensures { IsWrittenAt out.old out.new at result bytes.now }
 {
     match bytes.len() {
         8..16 => put_by::<8>(out, at, bytes),
@@ -70,7 +51,10 @@ pub fn put_piece(out: &mut [u8], at: usize, bytes: &[u8]) -> usize
         2..4 => put_by::<2>(out, at, bytes),
         1 => put_by::<1>(out, at, bytes),
         16..33 => put_by::<16>(out, at, bytes),
-        _ => put_long_piece(out, at, bytes),
+        _ => {
+            out[at..at + bytes.len()].copy_from_slice(bytes);
+            at + bytes.len()
+        }
     }
 }
 

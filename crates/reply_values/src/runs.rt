@@ -1,34 +1,19 @@
 //! How far the bytes of a text stand for themselves: in JSON none needs an escape (RFC 8259, section 7), in CSV none stands in double quotes alone (RFC 4180, section 2).
-ghost use Rattle.std.specs.Prelude.{◌≡◌, ◌||◌, ◌+◌, ◌<◌, ◌≤◌, drop, length, take};
+ghost use Rattle.std.specs.Prelude.{◌≡◌, ◌||◌, ◌<◌, ◌≤◌, length};
 ghost use Rattle.std.specs.List.{position_or_len};
-ghost use Rattle.reply_values.specs.Csv.{is_quoted_byte, needs_quotes};
-ghost use Rattle.reply_values.specs.Json.{needs_escape};
+ghost use Rattle.reply_values.specs.Csv.{needs_quotes};
 ghost use Rattle.reply_values.specs.Printed.{is_plain_text, needs_more};
 
-use crate::lanes::{unescaped_in, unquoted_in};
-
-/// Returns true if another text stands for a byte.
-fn needs_escape(byte: u8) -> bool
-    ensures { result ≡ needs_escape byte }
-{
-    byte == b'"' || byte == b'\\' || byte < 0x20
-}
-
-/// Returns true if a byte stands in double quotes alone.
-fn is_quoted_byte(byte: u8) -> bool
-    ensures { result ≡ is_quoted_byte byte }
-{
-    byte == b'"' || byte == b',' || byte == b'\r' || byte == b'\n'
-}
+use crate::lanes::run_in;
 
 /// Returns true if a byte of a text does not stand for itself.
 fn needs_more<const JSON: bool>(byte: u8) -> bool
     ensures { result ≡ needs_more JSON byte }
 {
     if JSON {
-        needs_escape(byte)
+        byte == b'"' || byte == b'\\' || byte < 0x20
     } else {
-        is_quoted_byte(byte)
+        byte == b'"' || byte == b',' || byte == b'\r' || byte == b'\n'
     }
 }
 
@@ -42,20 +27,6 @@ fn short_run_len<const JSON: bool>(text: &[u8]) -> usize
         }
     }
     text.len()
-}
-
-/// Returns how many bytes of the block from `at` on stand before the first that does not stand for itself.
-#[inline(always)]
-fn run_in<const JSON: bool, const N: usize>(text: &[u8], at: usize) -> usize
-    requires most { N ≤ 64 }
-    requires room { at + N ≤ length text.now }
-    ensures { result ≡ position_or_len (needs_more JSON) (take N (drop at text.now)) }
-{
-    if JSON {
-        unescaped_in::<N>(text, at)
-    } else {
-        unquoted_in::<N>(text, at)
-    }
 }
 
 /// Returns how many bytes at the front of a text stand for themselves, a block at a time. The last block ends where the text does, over bytes that were seen.
@@ -100,18 +71,10 @@ pub fn is_plain<const JSON: bool>(text: &[u8]) -> bool
     run_len::<JSON>(text) == text.len()
 }
 
-/// Returns true if a text stands in double quotes in CSV.
-#[inline(always)]
-fn needs_quotes(text: &[u8]) -> bool
-    ensures { result ≡ needs_quotes text.now }
-{
-    text.is_empty() || !is_plain::<false>(text)
-}
-
 /// Returns true if a text stands in double quotes, as each does in JSON.
 #[inline(always)]
 pub fn is_quoted<const JSON: bool>(text: &[u8]) -> bool
     ensures { result ≡ (JSON || needs_quotes text.now) }
 {
-    JSON || needs_quotes(text)
+    JSON || text.is_empty() || !is_plain::<false>(text)
 }

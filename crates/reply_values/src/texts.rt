@@ -1,8 +1,9 @@
 //! Texts in JSON (RFC 8259) or in CSV (RFC 4180, section 2), written into room that is there.
 ghost use Rattle.std.specs.Prelude.{◌≡◌, ◌+◌, ◌++◌, ◌<◌, ◌≤◌, length, take};
 ghost use Rattle.std.specs.List.{flat_map};
-ghost use Rattle.reply_values.specs.Json.{hex_digit, json_escaped};
+ghost use Rattle.reply_values.specs.Json.{hex_digit};
 ghost use Rattle.reply_values.specs.Printed.{printed_byte, printed_text};
+ghost use Rattle.reply_values.specs.Size.{IsWrittenAt};
 
 use crate::room::{put_block, put_byte, put_piece};
 use crate::runs::{is_plain, is_quoted, run_len};
@@ -15,43 +16,27 @@ fn hex_digit(n: u8) -> u8
     if n < 10 { b'0' + n } else { b'a' - 10 + n }
 }
 
-/// Writes what stands for a byte in a text in JSON.
-fn put_json_escaped(out: &mut [u8], at: usize, byte: u8) -> usize
-    requires { at + length (json_escaped byte) ≤ length out.old }
-    ensures long { length out.new ≡ length out.old }
-    ensures bytes { take result out.new ≡ take at out.old ++ json_escaped byte }
-    ensures end { result ≡ at + length (json_escaped byte) }
-{
-    match byte {
-        b'"' => put_block::<2>(out, at, b"\\\"", 2),
-        b'\\' => put_block::<2>(out, at, b"\\\\", 2),
-        0x08 => put_block::<2>(out, at, b"\\b", 2),
-        0x0c => put_block::<2>(out, at, b"\\f", 2),
-        b'\n' => put_block::<2>(out, at, b"\\n", 2),
-        b'\r' => put_block::<2>(out, at, b"\\r", 2),
-        b'\t' => put_block::<2>(out, at, b"\\t", 2),
-        0x00..=0x1f => {
-            let digits = [hex_digit(byte / 16), hex_digit(byte % 16)];
-            let end = put_block::<4>(out, at, b"\\u00", 4);
-            put_block::<2>(out, end, &digits, 2)
-        }
-        _ => put_block::<1>(out, at, &[byte], 1),
-    }
-}
-
 /// Writes what stands for a byte between double quotes.
 fn put_escaped<const JSON: bool>(out: &mut [u8], at: usize, byte: u8) -> usize
     requires { at + length (printed_byte JSON byte) ≤ length out.old }
-    ensures long { length out.new ≡ length out.old }
-    ensures bytes { take result out.new ≡ take at out.old ++ printed_byte JSON byte }
-    ensures end { result ≡ at + length (printed_byte JSON byte) }
+    ensures { IsWrittenAt out.old out.new at result (printed_byte JSON byte) }
 {
-    if JSON {
-        put_json_escaped(out, at, byte)
-    } else if byte == b'"' {
-        put_block::<2>(out, at, b"\"\"", 2)
-    } else {
-        put_block::<1>(out, at, &[byte], 1)
+    match byte {
+        b'"' if !JSON => put_block::<2>(out, at, b"\"\""),
+        _ if !JSON => put_block::<1>(out, at, &[byte]),
+        b'"' => put_block::<2>(out, at, b"\\\""),
+        b'\\' => put_block::<2>(out, at, b"\\\\"),
+        0x08 => put_block::<2>(out, at, b"\\b"),
+        0x0c => put_block::<2>(out, at, b"\\f"),
+        b'\n' => put_block::<2>(out, at, b"\\n"),
+        b'\r' => put_block::<2>(out, at, b"\\r"),
+        b'\t' => put_block::<2>(out, at, b"\\t"),
+        0x00..=0x1f => {
+            let digits = [hex_digit(byte / 16), hex_digit(byte % 16)];
+            let end = put_block::<4>(out, at, b"\\u00");
+            put_block::<2>(out, end, &digits)
+        }
+        _ => put_block::<1>(out, at, &[byte]),
     }
 }
 
@@ -59,9 +44,7 @@ fn put_escaped<const JSON: bool>(out: &mut [u8], at: usize, byte: u8) -> usize
 #[inline(never)]
 fn put_runs<const JSON: bool>(out: &mut [u8], at: usize, text: &[u8]) -> usize
     requires { at + length (flat_map (printed_byte JSON) text.now) ≤ length out.old }
-    ensures long { length out.new ≡ length out.old }
-    ensures bytes { take result out.new ≡ take at out.old ++ flat_map (printed_byte JSON) text.now }
-    ensures end { result ≡ at + length (flat_map (printed_byte JSON) text.now) }
+    ensures { IsWrittenAt out.old out.new at result (flat_map (printed_byte JSON) text.now) }
 {
     let mut rest = text;
     let mut end = at;
@@ -80,9 +63,7 @@ fn put_runs<const JSON: bool>(out: &mut [u8], at: usize, text: &[u8]) -> usize
 #[inline(always)]
 fn put_inside<const JSON: bool>(out: &mut [u8], at: usize, text: &[u8]) -> usize
     requires { at + length (flat_map (printed_byte JSON) text.now) ≤ length out.old }
-    ensures long { length out.new ≡ length out.old }
-    ensures bytes { take result out.new ≡ take at out.old ++ flat_map (printed_byte JSON) text.now }
-    ensures end { result ≡ at + length (flat_map (printed_byte JSON) text.now) }
+    ensures { IsWrittenAt out.old out.new at result (flat_map (printed_byte JSON) text.now) }
 {
     if is_plain::<JSON>(text) {
         put_piece(out, at, text)
@@ -96,9 +77,7 @@ fn put_inside<const JSON: bool>(out: &mut [u8], at: usize, text: &[u8]) -> usize
 #[tactic(auto, using(crate::proofs::RunLemmas::quoted_text, crate::proofs::RunLemmas::plain_text))]
 pub fn put_text<const JSON: bool>(out: &mut [u8], at: usize, text: &[u8]) -> usize
     requires { at + length (printed_text JSON text.now) ≤ length out.old }
-    ensures long { length out.new ≡ length out.old }
-    ensures bytes { take result out.new ≡ take at out.old ++ printed_text JSON text.now }
-    ensures end { result ≡ at + length (printed_text JSON text.now) }
+    ensures { IsWrittenAt out.old out.new at result (printed_text JSON text.now) }
 {
     if is_quoted::<JSON>(text) {
         let start = put_byte(out, at, b'"');

@@ -2,7 +2,7 @@
 ghost use Rattle.std.specs.Prelude.{◌≡◌, ◌+◌, ◌++◌, ◌<◌, ◌≤◌, OnErr, OnOk, length, take, vec_capacity, vec_len};
 ghost use Rattle.cell_types.specs.Value.{value_view};
 ghost use Rattle.reply_values.specs.Printed.{printed_value};
-ghost use Rattle.reply_values.specs.Size.{told};
+ghost use Rattle.reply_values.specs.Size.{told, IsWrittenAt};
 
 use crate::digits::{bool_size, date_size, decimal_size, integer_size};
 use crate::put_numbers::{put_bool, put_date, put_decimal, put_integer};
@@ -16,10 +16,7 @@ use std::alloc::AllocError;
 #[inline(always)]
 pub fn put_value<const JSON: bool>(out: &mut [u8], at: usize, value: &Value<'_>) -> usize
     requires { at + length (printed_value JSON (value_view value.now)) ≤ length out.old }
-    ensures long { length out.new ≡ length out.old }
-    ensures bytes { take result out.new
-        ≡ take at out.old ++ printed_value JSON (value_view value.now) }
-    ensures end { result ≡ at + length (printed_value JSON (value_view value.now)) }
+    ensures { IsWrittenAt out.old out.new at result (printed_value JSON (value_view value.now)) }
 {
     match value {
         Value::Null if JSON => put_piece(out, at, b"null"),

@@ -6,6 +6,7 @@ use Rattle.block_summary.specs.declared.block.TheConstants.{BLOCK_ROWS}
 use Rattle.cell_types.specs.Value.{CellValue, null, text}
 use Rattle.column_blocks.specs.ColumnCells.{ColumnCells}
 use Rattle.row_columns.specs.Numbers.{numbers_from}
+use Rattle.row_columns.specs.Part.{IsPartFrom}
 use Rattle.row_columns.specs.Piece.{no_cells, piece_row}
 use Rattle.row_columns.specs.Store.{numbered_row}
 use Rattle.row_columns.proofs.StoreLemmas.{row_of_piece}
@@ -79,6 +80,17 @@ pub part_at : (cells : List CellValue) (first len row : ℕ) → row < len → g
 part_at cells first len row less =
     get_or-map (λ n. get_or cells n null) (numbers_from first len) row 0 null (omega (arith, less, length-from first len))
     ∙ ap (λ n. get_or cells n null) (get-from first len row less)
+
+-- part of a column is what its block keeps from one row on
+pub part_from : (cells part kept : List CellValue) (first len : ℕ) → kept ≡ cells → map (λ n. get_or cells n null) (numbers_from first len) ≡ part → first + len ≤ BLOCK_ROWS
+    → IsPartFrom part first kept
+part_from cells part kept first len same is fits =
+    let long : length part ≡ len = sym (ap length is) ∙ length-map (numbers_from first len) (λ n. get_or cells n null) ∙ length-from first len in record {
+      within = omega (arith, fits, long);
+      at = λ row less.
+          ap (λ (cs : List CellValue). get_or cs row null) (sym is) ∙ part_at cells first len row (omega (arith, less, long))
+          ∙ ap (λ (cs : List CellValue). get_or cs (first + row) null) (sym same);
+    }
 
 -- the texts of part of a column
 pub part_texts : (cells texts : List CellValue) (first len last : ℕ) (P : List ℕ → Type 0) → texts ≡ cells → last + 1 ≡ first + len

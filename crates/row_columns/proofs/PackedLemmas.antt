@@ -16,7 +16,7 @@ use Rattle.row_columns.specs.Store.{numbered_row}
 use Rattle.row_columns.proofs.PieceLemmas.{cell_of_piece}
 
 -- packed cells are those of a column
-packed_are : (packed : Option (Bor (List CellValue))) (kind : ColumnKind) (cells : List CellValue) → option_copied packed ≡ cells_of_numbers kind cells → IfSome packed (λ p. p.now ≡ cells)
+pub packed_are : (packed : Option (Bor (List CellValue))) (kind : ColumnKind) (cells : List CellValue) → option_copied packed ≡ cells_of_numbers kind cells → IfSome packed (λ p. p.now ≡ cells)
 packed_are None kind cells e = tt
 packed_are (Some p) Text cells e = absurd (cc)
 packed_are (Some p) (Number t) cells e = same_Some p.now cells e

@@ -7,6 +7,7 @@ pub mod Codes
 pub mod Numbers
 pub mod Chunks
 pub mod Text
+pub mod Part
 pub mod Piece
 pub mod Store
 pub mod Cell

@@ -2,7 +2,6 @@
 use Rattle.std.specs.Prelude.{◌≡◌, ◌*◌, ◌/◌, ◌%◌, ◌<◌, ◌≤◌, ℕ, List, [], Vec, length, map, replicate, slice_index_or}
 use Rattle.std.specs.List.{AllByRecursion}
 use Rattle.block_summary.specs.declared.block.TheConstants.{BLOCK_ROWS}
-use Rattle.cell_types.specs.declared.kind.ColumnKind.{ColumnKind}
 use Rattle.cell_types.specs.Value.{CellValue, value_view}
 use Rattle.cell_types.specs.declared.value.Value.{Value}
 use Rattle.row_columns.specs.declared.store.Store.{Store}

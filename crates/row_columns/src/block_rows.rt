@@ -3,19 +3,19 @@ ghost use Rattle.std.specs.Prelude.{◌≡◌, ◌+◌, ◌<◌, ◌≤◌, ℕ,
 ghost use Rattle.block_summary.specs.Ranges.{column_of};
 ghost use Rattle.block_summary.specs.declared.block.TheConstants.{BLOCK_ROWS};
 ghost use Rattle.cell_types.specs.Value.{null, text};
-ghost use Rattle.row_columns.specs.Cell.{cell_view};
 ghost use Rattle.row_columns.specs.Numbers.{numbers_from};
+ghost use Rattle.row_columns.specs.Part.{ArePartOf};
 ghost use Rattle.row_columns.specs.Piece.{piece_row};
 ghost use Rattle.row_columns.specs.Store.{end_of, stored_row};
 ghost use Rattle.text_columns.specs.Search.{HasPart};
 
-use crate::cell::{Cell, cell_in};
 use crate::columns::Columns;
 use crate::piece::Piece;
 use crate::store::Store;
-use block_summary::BLOCK_ROWS;
+use block_summary::{BLOCK_ROWS, PackedColumn};
 use column_blocks::BlockCells;
 use std::marker::Model;
+use text_columns::TextColumn;
 
 /// Rows that follow on one another in one block, one at least. They are seen as the list of these rows.
 #[derive(Drop)]
@@ -61,6 +61,13 @@ impl<'a> Model for ColumnPart<'a> {
     ghost invariant = { λ c. c.first + c.len ≤ BLOCK_ROWS };
 }
 
+/// The cells that a block has in a column, as they are kept, and the number of the first row of a part of them.
+#[derive(Drop)]
+pub enum PartCells<'a> {
+    Numbers(&'a PackedColumn, usize),
+    Texts(TextColumn<'a>, usize),
+}
+
 impl<'a> BlockRows<'a> {
     /// Returns `len` rows from the row `first` of a block on.
     pub(crate) fn of(piece: &'a Piece, first: usize, len: usize) -> BlockRows<'a>
@@ -86,13 +93,18 @@ impl<'a> BlockRows<'a> {
 }
 
 impl<'a> ColumnPart<'a> {
-    /// Returns the cell of a row, counted from 0, as it is kept.
+    /// Returns the cells of the whole block, as they are kept, and the number there of the first of these.
     #[inline(always)]
-    pub fn cell(&self, row: usize) -> Cell<'a>
-        requires { row < length self.now }
-        ensures { cell_view result ≡ slice_index_or self.now row null }
+    pub fn kept(&self) -> PartCells<'a>
+        ensures { ArePartOf self.now result }
     {
-        cell_in(self.cells, self.first + row)
+        if let Some(numbers) = self.cells.packed() {
+            return PartCells::Numbers(numbers, self.first);
+        }
+        match self.cells.texts() {
+            Some(texts) => PartCells::Texts(texts, self.first),
+            None => unreachable!(),
+        }
     }
 
     /// Returns bytes that have the text of each cell, or `None` if the cells are not texts.

@@ -1,5 +1,6 @@
 //! Cells, as they are kept.
 ghost use Rattle.std.specs.Prelude.{◌≡◌, slice_index_or};
+ghost use Rattle.block_summary.specs.Types.{cells_of_kind, numbers_of};
 ghost use Rattle.cell_types.specs.Kind.{cell_of};
 ghost use Rattle.cell_types.specs.declared.kind.NumberKind.TheVariants as kinds;
 ghost use Rattle.cell_types.specs.Value.{null, value_view};
@@ -70,13 +71,14 @@ fn date_cell(value: &Value<'_>) -> Cell<'static>
     }
 }
 
-/// Returns the cell of a row of numbers; null past the end.
+/// Returns the cell of a row of numbers, which stand for values of `kind`; null past the end.
 #[inline(always)]
 #[tactic(auto, using(crate::proofs::CellLemmas::typed_at))]
-fn number_cell(numbers: &PackedColumn, row: usize) -> Cell<'static>
+pub fn number_cell(numbers: &PackedColumn, kind: NumberKind, row: usize) -> Cell<'static>
+    requires { cells_of_kind kind (numbers_of numbers.now) ≡ numbers.now }
     ensures { cell_view result ≡ slice_index_or numbers.now row null }
 {
-    match numbers.kind() {
+    match kind {
         NumberKind::Integer => integer_cell(numbers.number(row)),
         NumberKind::Decimal => decimal_cell(numbers.number(row)),
         NumberKind::Boolean => boolean_cell(numbers.number(row)),
@@ -86,7 +88,7 @@ fn number_cell(numbers: &PackedColumn, row: usize) -> Cell<'static>
 
 /// Returns the cell of a row of texts; null past the end.
 #[inline(always)]
-fn text_cell<'t>(texts: &TextColumn<'t>, row: usize) -> Cell<'t>
+pub fn text_cell<'t>(texts: &TextColumn<'t>, row: usize) -> Cell<'t>
     ensures { cell_view result ≡ slice_index_or texts.now row null }
 {
     if row >= texts.len() {
@@ -104,7 +106,7 @@ pub(crate) fn cell_in(cells: &BlockCells, row: usize) -> Cell<'_>
     ensures { cell_view result ≡ slice_index_or cells.now.cells row null }
 {
     if let Some(numbers) = cells.packed() {
-        return number_cell(numbers, row);
+        return number_cell(numbers, numbers.kind(), row);
     }
     match cells.texts() {
         Some(texts) => text_cell(&texts, row),

@@ -12,7 +12,7 @@ mod store;
 mod turns;
 mod value_rows;
 
-pub use block_rows::{BlockRows, ColumnPart};
-pub use cell::Cell;
+pub use block_rows::{BlockRows, ColumnPart, PartCells};
+pub use cell::{Cell, number_cell, text_cell};
 pub use columns::Columns;
 pub use row_ref::RowRef;

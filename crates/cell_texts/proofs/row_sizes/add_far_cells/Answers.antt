@@ -1,4 +1,4 @@
-use Rattle.std.proofs.Common.{◌+◌, ◌<◌, ◌≢◌, length, get_or, arith, ap, sym, ◌∙◌, below_more, get_or-set_other, get_or-set_same}
+use Rattle.std.proofs.Common.{◌+◌, ◌<◌, ◌≢◌, length, arith, ap, below_more, get_or-set_other, get_or-set_same}
 use Rattle.reply_values.specs.Printed.{printed_value}
 use Rattle.row_columns.specs.Cell.{cell_view}
 use Rattle.cell_texts.proofs.SizeLemmas.{value_lent}

@@ -1,4 +1,4 @@
-use Rattle.std.proofs.Common.{◌≡◌, ◌≢◌, ◌+◌, ◌<◌, ◌≤◌, ℕ, List, [], drop, get_or, length, map, take, refl, subst, sym, ap, ◌∙◌, arith, below_more, get_or-set_other, get_or-set_same}
+use Rattle.std.proofs.Common.{◌≡◌, ◌≢◌, ◌+◌, ◌<◌, ℕ, List, [], get_or, length, map, refl, subst, sym, ap, ◌∙◌, arith, below_more, get_or-set_other, get_or-set_same}
 use Rattle.cell_types.specs.Value.{CellValue, null}
 use Rattle.cell_texts.specs.Sizes.{frame_at}
 use Rattle.reply_values.specs.Printed.{printed_value}

@@ -1,4 +1,4 @@
-use Rattle.std.proofs.Common.{◌≡◌, ◌+◌, ◌<◌, ◌≤◌, ℕ, [], get_or, length, take}
+use Rattle.std.proofs.Common.{◌≡◌, ◌+◌, ◌<◌, ℕ, [], get_or, length, take}
 use Rattle.std.specs.List.{flat_map}
 use Rattle.cell_texts.specs.Sizes.{frame_at}
 use Rattle.reply_values.specs.Printed.{printed_value}

@@ -13,17 +13,11 @@ put_millionths-requires c =
     let number : c.unsigned_abs.result ≡ unsigned_abs c.args.millionths = c.unsigned_abs.ensures.value ∙ ap unsigned_abs (to_z-of_z w128 c.args.millionths c.ranges.millionths) in
     omega (arith, c.requires, ap length (text-other c.args.millionths above), ap (λ n. length (millionths_text n)) number)
 
-pub returns-then-millionths-ge0-clause-bytes : goal.returns-then-millionths-ge0-clause-bytes
-returns-then-millionths-ge0-clause-bytes c =
+pub returns-then-millionths-ge0 : goal.returns-then-millionths-ge0
+returns-then-millionths-ge0 c =
     let above : pos 0 ≤ℤ c.args.millionths = first_of (omega (arith, ints, c.if-millionths-ge0.true), grind (arith, ints, c.if-millionths-ge0.true), search rules) in
     let number : c.unsigned_abs.result ≡ unsigned_abs c.args.millionths = c.unsigned_abs.ensures.value ∙ ap unsigned_abs (to_z-of_z w128 c.args.millionths c.ranges.millionths) in
-    rw (text-other c.args.millionths above, ← number) c.put_millionths.ensures.bytes
-
-pub returns-then-millionths-ge0-clause-end : goal.returns-then-millionths-ge0-clause-end
-returns-then-millionths-ge0-clause-end c =
-    let above : pos 0 ≤ℤ c.args.millionths = first_of (omega (arith, ints, c.if-millionths-ge0.true), grind (arith, ints, c.if-millionths-ge0.true), search rules) in
-    let number : c.unsigned_abs.result ≡ unsigned_abs c.args.millionths = c.unsigned_abs.ensures.value ∙ ap unsigned_abs (to_z-of_z w128 c.args.millionths c.ranges.millionths) in
-    rw (text-other c.args.millionths above, ← number) c.put_millionths.ensures.end
+    rw (text-other c.args.millionths above, ← number) c.put_millionths.ensures
 
 pub put_byte-end-requires : goal.put_byte-end-requires
 put_byte-end-requires c =
@@ -36,16 +30,13 @@ put_millionths-requires-2 c =
     let number : c.unsigned_abs-2.result ≡ unsigned_abs c.args.millionths = c.unsigned_abs-2.ensures.value ∙ ap unsigned_abs (to_z-of_z w128 c.args.millionths c.ranges.millionths) in
     omega (arith, c.requires, ap length (text-negative c.args.millionths below), ap (λ n. length (millionths_text n)) number, c.put_byte-end.ensures.end, c.put_byte-end.ensures.long)
 
-pub returns-clause-bytes : goal.returns-clause-bytes
-returns-clause-bytes c =
+pub returns : goal.returns
+returns c =
     let below : c.args.millionths <ℤ pos 0 = first_of (omega (arith, ints, c.if-millionths-ge0.false), grind (arith, ints, c.if-millionths-ge0.false), search rules) in
     let number : c.unsigned_abs-2.result ≡ unsigned_abs c.args.millionths = c.unsigned_abs-2.ensures.value ∙ ap unsigned_abs (to_z-of_z w128 c.args.millionths c.ranges.millionths) in
     let front = take c.args.at c.args.out.now in
-    rw c.put_byte-end.ensures.bytes at c.put_millionths-2.ensures.bytes ∙ append_assoc front (45 ∷ []) (millionths_text c.unsigned_abs-2.result)
-    ∙ ap (λ xs. front ++ xs) (sym (rw number (text-negative c.args.millionths below)))
-
-pub returns-clause-end : goal.returns-clause-end
-returns-clause-end c =
-    let below : c.args.millionths <ℤ pos 0 = first_of (omega (arith, ints, c.if-millionths-ge0.false), grind (arith, ints, c.if-millionths-ge0.false), search rules) in
-    let number : c.unsigned_abs-2.result ≡ unsigned_abs c.args.millionths = c.unsigned_abs-2.ensures.value ∙ ap unsigned_abs (to_z-of_z w128 c.args.millionths c.ranges.millionths) in
-    omega (arith, ap length (text-negative c.args.millionths below), ap (λ n. length (millionths_text n)) number, c.put_byte-end.ensures.end, c.put_millionths-2.ensures.end)
+    rw (text-negative c.args.millionths below, ← number) (record {
+      long = omega (arith, c.put_byte-end.ensures.long, c.put_millionths-2.ensures.long);
+      bytes = rw c.put_byte-end.ensures.bytes at c.put_millionths-2.ensures.bytes ∙ append_assoc front (45 ∷ []) (millionths_text c.unsigned_abs-2.result);
+      end = omega (arith, c.put_byte-end.ensures.end, c.put_millionths-2.ensures.end);
+    })

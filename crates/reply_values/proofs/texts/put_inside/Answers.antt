@@ -9,10 +9,5 @@ put_piece-requires g c =
     let plain = all_plain (JSON-type (number g.row.JSON)) c.args.text.now (sym c.is_plain.ensures ∙ c.if-is_plain.true) in
     omega (arith, c.requires, ap length plain)
 
-pub returns-then-is_plain-clause-bytes : goal.returns-then-is_plain-clause-bytes
-returns-then-is_plain-clause-bytes g c =
-    rw (all_plain (JSON-type (number g.row.JSON)) c.args.text.now (sym c.is_plain.ensures ∙ c.if-is_plain.true)) c.put_piece.ensures.bytes
-
-pub returns-then-is_plain-clause-end : goal.returns-then-is_plain-clause-end
-returns-then-is_plain-clause-end g c =
-    rw (all_plain (JSON-type (number g.row.JSON)) c.args.text.now (sym c.is_plain.ensures ∙ c.if-is_plain.true)) c.put_piece.ensures.end
+pub returns-then-is_plain : goal.returns-then-is_plain
+returns-then-is_plain g c = rw (all_plain (JSON-type (number g.row.JSON)) c.args.text.now (sym c.is_plain.ensures ∙ c.if-is_plain.true)) c.put_piece.ensures

@@ -17,15 +17,15 @@ put_piece-end-requires g c =
     let counted = run_counted (JSON-type (number g.row.JSON)) _ _ _ _ c.run_len.ensures c.split_at.ensures.front c.split_at.ensures.back in
     omega (arith, c.requires, c.loop-byte.invariant.0, c.loop-byte.invariant.1.1, counted)
 
-pub returns-in_default-clause-bytes : goal.returns-in_default-clause-bytes
-returns-in_default-clause-bytes g c =
-    write_last (JSON-type (number g.row.JSON)) _ _ _ _ _ _ _ c.run_len.ensures c.split_at.ensures.front c.split_at.ensures.back c.loop-byte.invariant.1.0 c.in_default.ensures.cases c.put_piece-end.ensures.bytes
-
-pub returns-in_default-clause-end : goal.returns-in_default-clause-end
-returns-in_default-clause-end g c =
+pub returns-in_default : goal.returns-in_default
+returns-in_default g c =
     let counted = run_counted (JSON-type (number g.row.JSON)) _ _ _ _ c.run_len.ensures c.split_at.ensures.front c.split_at.ensures.back in
     let none = ap (λ l. length (flat_map (printed_byte (JSON-type (number g.row.JSON))) l)) (nil_from_length c.split_at.result.1.now c.in_default.ensures.cases) in
-    omega (arith, c.put_piece-end.ensures.end, c.loop-byte.invariant.1.1, counted, none)
+    record {
+      long = omega (arith, c.loop-byte.invariant.0, c.put_piece-end.ensures.long);
+      bytes = write_last (JSON-type (number g.row.JSON)) _ _ _ _ _ _ _ c.run_len.ensures c.split_at.ensures.front c.split_at.ensures.back c.loop-byte.invariant.1.0 c.in_default.ensures.cases c.put_piece-end.ensures.bytes;
+      end = omega (arith, c.put_piece-end.ensures.end, c.loop-byte.invariant.1.1, counted, none);
+    }
 
 pub put_escaped-end-requires : goal.put_escaped-end-requires
 put_escaped-end-requires g c =

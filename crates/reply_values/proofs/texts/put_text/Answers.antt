@@ -1,4 +1,4 @@
-use Rattle.std.proofs.Common.{[], ◌∷◌, ap, arith, length, length-append, sym, ◌∙◌}
+use Rattle.std.proofs.Common.{[], ◌∷◌, ap, append_assoc, arith, length, length-append, sym, ◌∙◌}
 use Rattle.std.specs.List.{flat_map}
 use Rattle.reply_values.specs.Printed.{printed_byte}
 use Rattle.reply_values.specs.contracts.texts.put_text.{JSON-type}
@@ -27,8 +27,13 @@ put_byte-requires g c =
       c.put_inside-end.ensures.long,
     )
 
-pub returns-then-is_quoted-clause-end : goal.returns-then-is_quoted-clause-end
-returns-then-is_quoted-clause-end g c =
+pub returns-then-is_quoted : goal.returns-then-is_quoted
+returns-then-is_quoted g c =
     let json = JSON-type (number g.row.JSON) in
+    let inside = flat_map (printed_byte json) c.args.text.now in
     let whole = quoted_text json c.args.text.now (sym c.is_quoted.ensures ∙ c.if-is_quoted.true) in
-    omega (arith, ap length whole, length-append (flat_map (printed_byte json) c.args.text.now) (34 ∷ []), c.put_byte-start.ensures.end, c.put_inside-end.ensures.end, c.put_byte.ensures.end)
+    rw whole (record {
+      long = omega (arith, c.put_byte-start.ensures.long, c.put_inside-end.ensures.long, c.put_byte.ensures.long);
+      bytes = rw (c.put_inside-end.ensures.bytes, c.put_byte-start.ensures.bytes) at c.put_byte.ensures.bytes ∙ simp append_assoc;
+      end = omega (arith, length-append inside (34 ∷ []), c.put_byte-start.ensures.end, c.put_inside-end.ensures.end, c.put_byte.ensures.end);
+    })

@@ -9,4 +9,4 @@ pub date_cell-requires : goal.date_cell-requires
 date_cell-requires c =
     let cells = c.args.numbers.now in
     subst IsDayOrNull (sym c.value.ensures)
-    (day_at cells c.args.row (subst (λ (t : NumberKind). cells_of_kind t (numbers_of cells) ≡ cells) c.in-Date.is c.kind.ensures))
+    (day_at cells c.args.row (subst (λ (t : NumberKind). cells_of_kind t (numbers_of cells) ≡ cells) c.in-Date.is c.requires))

@@ -1,5 +1,5 @@
-use Rattle.std.proofs.Common.{◌≡◌, ℕ, ◌+◌, ◌-◌, List, get_or, ap, sym, ◌∙◌, arith}
-use Rattle.cell_types.specs.Value.{CellValue, null, text}
+use Rattle.std.proofs.Common.{◌+◌, ◌-◌, List, get_or, ap, sym, ◌∙◌, arith}
+use Rattle.cell_types.specs.Value.{CellValue, null}
 use Rattle.text_columns.specs.Search.{HasPart}
 use Rattle.row_columns.proofs.BlockLemmas.{part_texts}
 use Rattle.row_columns.proofs.PieceLemmas.{text_cells}

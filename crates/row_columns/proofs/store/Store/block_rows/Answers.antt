@@ -1,5 +1,4 @@
-use Rattle.std.proofs.Common.{◌≡◌, ◌<◌, ◌+◌, ◌≤◌, ◌/◌, ◌%◌, map, sym, subst, ap, ◌∙◌, arith}
-use Rattle.block_summary.specs.declared.block.TheConstants.{BLOCK_ROWS}
+use Rattle.std.proofs.Common.{◌<◌, map, sym, subst, ap, ◌∙◌, arith}
 use Rattle.row_columns.specs.declared.store.Store.{Store}
 use Rattle.row_columns.specs.declared.store.Store.TheVariants.{Blocks}
 use Rattle.row_columns.specs.Numbers.{numbers_from}

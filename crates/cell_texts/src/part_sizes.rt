@@ -1,0 +1,97 @@
+//! How many bytes the cells of one block's column take, in JSON or in CSV. What the column has is asked once for all of them. None is written.
+ghost use Rattle.std.specs.Prelude.{◌≡◌, ◌+◌, ◌<◌, ◌≤◌, ℕ, IsTrue, length, slice_index_or};
+ghost use Rattle.block_summary.specs.Types.{cells_of_kind, numbers_of};
+ghost use Rattle.block_summary.specs.declared.block.TheConstants.{BLOCK_ROWS};
+ghost use Rattle.cell_texts.specs.Sizes.{AreCellsCounted, AreCellsCountedFrom, ArePlainCells, IsPlainCell};
+ghost use Rattle.cell_types.specs.Value.{null};
+ghost use Rattle.reply_values.specs.Printed.{printed_value};
+
+use crate::sizes::{cell_size, known_size};
+use block_summary::PackedColumn;
+use cell_types::NumberKind;
+use reply_values::is_plain;
+use row_columns::{ColumnPart, PartCells, number_cell, text_cell};
+use text_columns::TextColumn;
+
+/// Returns true if each byte of the texts of cells stands for itself, by one look over all of them, or false if the cells are not texts.
+fn are_plain<const JSON: bool>(cells: &ColumnPart<'_>) -> bool
+    ensures { IsTrue result → ArePlainCells JSON cells.now }
+{
+    match cells.text_bytes() {
+        Some(bytes) => is_plain::<JSON>(bytes),
+        None => false,
+    }
+}
+
+/// Adds to each size how many bytes a number takes, from that of the row `first` on. The numbers stand for values of `kind`.
+#[inline(always)]
+fn add_numbers<const JSON: bool>(
+    numbers: &PackedColumn,
+    kind: NumberKind,
+    first: usize,
+    sizes: &mut [usize],
+)
+    requires kind { cells_of_kind kind (numbers_of numbers.now) ≡ numbers.now }
+    requires within { first + length sizes.old ≤ BLOCK_ROWS }
+    ensures { AreCellsCountedFrom (printed_value JSON) first numbers.now sizes.old sizes.new }
+{
+    for i in 0..sizes.len() {
+        let cell = number_cell(numbers, kind, first + i);
+        sizes[i] = sizes[i].saturating_add(cell_size::<JSON>(cell));
+    }
+}
+
+/// Adds to each size how many bytes a text takes, from that of the row `first` on. None is looked at if `is_plain`: each of their bytes stands for itself.
+#[inline(always)]
+fn add_texts<const JSON: bool>(
+    texts: &TextColumn<'_>,
+    is_plain: bool,
+    first: usize,
+    sizes: &mut [usize],
+)
+    requires within { first + length sizes.old ≤ BLOCK_ROWS }
+    requires plain { IsTrue is_plain → (i : ℕ) → i < length sizes.old
+        → IsPlainCell JSON (slice_index_or texts.now (first + i) null) }
+    ensures { AreCellsCountedFrom (printed_value JSON) first texts.now sizes.old sizes.new }
+{
+    for i in 0..sizes.len() {
+        let cell = text_cell(texts, first + i);
+        sizes[i] = sizes[i].saturating_add(known_size::<JSON>(cell, is_plain));
+    }
+}
+
+/// Adds to each size how many bytes a number takes, from that of the row `first` on.
+#[inline(never)]
+fn add_kinds<const JSON: bool>(numbers: &PackedColumn, first: usize, sizes: &mut [usize])
+    requires { first + length sizes.old ≤ BLOCK_ROWS }
+    ensures { AreCellsCountedFrom (printed_value JSON) first numbers.now sizes.old sizes.new }
+{
+    // A loop for each kind, so that none asks again what the numbers stand for.
+    match numbers.kind() {
+        NumberKind::Integer => {
+            add_numbers::<JSON>(numbers, NumberKind::Integer, first, sizes);
+        }
+        NumberKind::Decimal => {
+            add_numbers::<JSON>(numbers, NumberKind::Decimal, first, sizes);
+        }
+        NumberKind::Boolean => {
+            add_numbers::<JSON>(numbers, NumberKind::Boolean, first, sizes);
+        }
+        NumberKind::Date => add_numbers::<JSON>(numbers, NumberKind::Date, first, sizes),
+    }
+}
+
+/// Adds to each size how many bytes its cell takes.
+#[inline(never)]
+pub(crate) fn add_cells<const JSON: bool>(cells: &ColumnPart<'_>, sizes: &mut [usize])
+    requires { length cells.now ≡ length sizes.old }
+    ensures { AreCellsCounted (printed_value JSON) cells.now sizes.old sizes.new }
+{
+    match cells.kept() {
+        PartCells::Numbers(numbers, first) => add_kinds::<JSON>(numbers, first, sizes),
+        PartCells::Texts(texts, first) if are_plain::<JSON>(cells) => {
+            add_texts::<JSON>(&texts, true, first, sizes);
+        }
+        PartCells::Texts(texts, first) => add_texts::<JSON>(&texts, false, first, sizes),
+    }
+}
