@@ -21,14 +21,14 @@ use Rattle.aggregate_rows.specs.Gathered.{gathered_rows, gathered_width, lent_pl
 use Rattle.aggregate_rows.specs.Tallies.{FitsAll}
 use Rattle.block_filter.specs.declared.block.Passed.{Passed}
 use Rattle.query_exec.specs.declared.aggregate.AggregateSink.{AggregateSink}
-use Rattle.query_exec.specs.declared.kept.Kept.{Kept}
+use Rattle.result_rows.specs.declared.kept.Kept.{Kept}
 use Rattle.query_exec.specs.declared.sink.Sink.TheVariants as sink
 use Rattle.query_exec.specs.Steps.{aggregate_node, without_count}
-use Rattle.query_exec.specs.Kept.{kept_names, kept_places, HasKept, HasSameColumns}
-use Rattle.query_exec.specs.Picked.{selected_rows}
+use Rattle.result_rows.specs.Kept.{kept_names, kept_places, HasKept, HasSameColumns}
+use Rattle.result_rows.specs.Selected.{selected_rows}
 use Rattle.query_exec.specs.Sink.{MayPush, PushesOn, SinkGives}
 use Rattle.query_exec.proofs.CountLemmas.{selected_long, selected_numbered}
-use Rattle.query_exec.proofs.KeptLemmas.{as_many}
+use Rattle.result_rows.proofs.KeptLemmas.{as_many}
 use Rattle.row_columns.proofs.NumberedLaws.{all_numbered, all_within}
 
 -- ---- the step

@@ -12,7 +12,7 @@ use Rattle.query_plan.specs.Plan.{NodeOf, nodes_result, select_nodes}
 use Rattle.row_columns.specs.Picked.{values_at}
 use Rattle.block_filter.specs.Conditions.{rows_joined, passing_all}
 use Rattle.query_exec.specs.Conditions.{condition_nodes}
-use Rattle.query_exec.specs.Picked.{selected_rows}
+use Rattle.result_rows.specs.Selected.{selected_rows}
 
 above : (es : List TruthExprOf) (steps : List NodeOf) (r : ResultOf) (passed : Option (List (List CellValue)))
     → ((rows : List (List CellValue)) → nodes_result (condition_nodes es ++ steps) (record r { rows = rows })

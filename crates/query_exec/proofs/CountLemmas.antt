@@ -10,7 +10,7 @@ use Rattle.query_meaning.specs.Filter.{faults, passes, passes_each}
 use Rattle.query_meaning.specs.Meaning.{first_rows}
 use Rattle.row_columns.specs.Picked.{numbered, values_at}
 use Rattle.block_filter.specs.Conditions.{passing_all}
-use Rattle.query_exec.specs.Picked.{selected_rows}
+use Rattle.result_rows.specs.Selected.{selected_rows}
 use Rattle.query_exec.proofs.ConditionLemmas.{some_selected}
 
 -- where there are no conditions all do

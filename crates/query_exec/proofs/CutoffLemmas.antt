@@ -18,11 +18,11 @@ use Rattle.query_meaning.specs.Order.{Item}
 use Rattle.row_columns.specs.Picked.{numbered, values_at}
 use Rattle.sort_rows.specs.Best.{best_rows}
 use Rattle.sort_rows.specs.Cutoffs.{first_value, is_near, may_precede, ComesLate, HasCalendarDays, IsTest, NeverFault, RowsAreCutOff}
-use Rattle.query_exec.specs.declared.kept.Kept.{Kept}
+use Rattle.result_rows.specs.declared.kept.Kept.{Kept}
 use Rattle.query_exec.specs.declared.top_n.TopNSink.{TopNSink}
 use Rattle.query_exec.specs.Cutoffs.{selected_row, CutsOff, HasCutoff, IsFirstColumn, IsSourceOf}
-use Rattle.query_exec.specs.Kept.{kept_places, HasKept}
-use Rattle.query_exec.specs.Picked.{selected_rows}
+use Rattle.result_rows.specs.Kept.{kept_places, HasKept}
+use Rattle.result_rows.specs.Selected.{selected_rows}
 use Rattle.query_exec.specs.Sink.{sink_items}
 use Rattle.query_exec.specs.TopN.{AreFirst, AreTimely}
 use Rattle.query_exec.proofs.CountLemmas.{selected_long}

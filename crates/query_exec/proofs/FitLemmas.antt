@@ -1,6 +1,6 @@
 -- The conditions of a plan fit the rows of a block.
-use Rattle.std.proofs.Common.{◌≡◌, ℕ, zero, suc, ◌<◌, List, [], ◌∷◌, ◌++◌, length, get_or, sym, ap, ◌∙◌, append_assoc, subst, arith}
-use Rattle.std.specs.Prelude.{None, Some, IfSome, Option, option_map}
+use Rattle.std.proofs.Common.{◌≡◌, ℕ, zero, suc, ◌<◌, List, [], ◌∷◌, ◌++◌, length, get_or, drop, map, take, refl, sym, ap, ◌∙◌, append_assoc, subst, arith}
+use Rattle.std.specs.Prelude.{None, Some, IfSome, Option, option_map, option_to_list}
 use Rattle.std.specs.List.{All}
 use Rattle.std.proofs.lemmas.List.{length-map}
 use Rattle.cell_types.specs.Value.{CellValue}
@@ -11,12 +11,17 @@ use Rattle.table_store.specs.Table.{TableOf}
 use Rattle.query_plan.specs.Fitting.{IsFitFor, NodesFit}
 use Rattle.query_meaning.specs.Fitting.{AreTableRows}
 use Rattle.query_plan.specs.Laws.{NodesInTurn}
-use Rattle.query_meaning.specs.Meaning.{table_names}
-use Rattle.query_plan.specs.Plan.{NodeOf, PlanOf, select_nodes, table_result}
+use Rattle.query_meaning.specs.Meaning.{first_rows, selected_names, table_names}
+use Rattle.query_meaning.specs.Order.{Item}
+use Rattle.query_plan.specs.Plan.{NodeOf, PlanOf, counted, projecting, select_nodes, slice_view, slicing, sorting, table_result}
+use Rattle.query_plan.specs.Rewrite.{chosen}
+use Rattle.query_plan.specs.declared.plan.Slice.{Slice}
 use Rattle.query_exec.specs.declared.run.Run.{Run}
 use Rattle.block_filter.specs.Conditions.{ConditionsFit, ConditionsInTurn}
 use Rattle.query_exec.specs.Conditions.{condition_nodes}
 use Rattle.query_exec.specs.Run.{conditions_of, places_of, steps_of, HasTakenBlocks}
+use Rattle.query_exec.specs.Sink.{FitNames}
+use Rattle.query_exec.specs.Steps.{without_count}
 use Rattle.query_exec.proofs.ConditionLemmas.{conditions_give}
 
 -- the rows of a table are rows that a plan is for
@@ -68,11 +73,46 @@ picked_within (Some places) steps schema rows fit =
 no_rows : (schema : SchemaOf) → AreTableRows schema []
 no_rows schema = record { each = λ k d h. absurd (omega (arith, h)); count = omega arith }
 
--- are columns of the table
-pub places_within : NodesInTurn → ConditionsInTurn → (es : List TruthExprOf) (picked : Option (List ℕ)) (steps : List NodeOf) (schema : SchemaOf) (plan : PlanOf)
-    → condition_nodes es ++ select_nodes picked ++ steps ≡ plan.nodes → IsFitFor schema plan → IfSome picked (All (λ place. place < length schema.columns))
-places_within law turn es picked steps schema plan is fits =
+-- no rows fit what comes after the conditions
+after_conditions : NodesInTurn → ConditionsInTurn → (es : List TruthExprOf) (picked : Option (List ℕ)) (steps : List NodeOf) (schema : SchemaOf) (plan : PlanOf)
+    → condition_nodes es ++ select_nodes picked ++ steps ≡ plan.nodes → IsFitFor schema plan → NodesFit (select_nodes picked ++ steps) (table_result schema [])
+after_conditions law turn es picked steps schema plan is fits =
     let r = table_result schema [] in
     let fit : NodesFit (condition_nodes es ++ (select_nodes picked ++ steps)) r =
     subst (λ ns. NodesFit ns r) (sym is ∙ append_assoc (condition_nodes es) (select_nodes picked) steps) (fits [] (no_rows schema)) in
-    picked_within picked steps schema [] (law.above_fit (condition_nodes es) (select_nodes picked ++ steps) r r fit (conditions_give es r [] [] (turn.none es)))
+    law.above_fit (condition_nodes es) (select_nodes picked ++ steps) r r fit (conditions_give es r [] [] (turn.none es))
+
+-- are columns of the table
+pub places_within : NodesInTurn → ConditionsInTurn → (es : List TruthExprOf) (picked : Option (List ℕ)) (steps : List NodeOf) (schema : SchemaOf) (plan : PlanOf)
+    → condition_nodes es ++ select_nodes picked ++ steps ≡ plan.nodes → IsFitFor schema plan → IfSome picked (All (λ place. place < length schema.columns))
+places_within law turn es picked steps schema plan is fits = picked_within picked steps schema [] (after_conditions law turn es picked steps schema plan is fits)
+
+-- and no rows in these fit the steps after them
+picked_fit : (picked : Option (List ℕ)) (steps : List NodeOf) (schema : SchemaOf) → NodesFit (select_nodes picked ++ steps) (table_result schema [])
+    → NodesFit steps (without_count (selected_names picked (table_names schema)) [])
+picked_fit None steps schema fit = fit
+picked_fit (Some places) steps schema fit = fit.1 (without_count (selected_names (Some places) (table_names schema)) []) refl
+
+pub steps_fit : NodesInTurn → ConditionsInTurn → (es : List TruthExprOf) (picked : Option (List ℕ)) (steps : List NodeOf) (schema : SchemaOf) (plan : PlanOf)
+    → condition_nodes es ++ select_nodes picked ++ steps ≡ plan.nodes → IsFitFor schema plan → NodesFit steps (without_count (selected_names picked (table_names schema)) [])
+steps_fit law turn es picked steps schema plan is fits = picked_fit picked steps schema (after_conditions law turn es picked steps schema plan is fits)
+
+-- ---- after an order
+
+pub after_order : (items : List Item) (most : Option ℕ) (nodes : List NodeOf) (names : List (List ℕ)) → NodesFit (chosen (sorting items) most ∷ nodes) (without_count names []) → FitNames names nodes
+after_order items None nodes names fit = record { result = without_count names []; names_are = refl; fit = fit.1 (without_count names []) refl }
+after_order items (Some most) nodes names fit = record { result = without_count names (take most []); names_are = refl; fit = fit.1 (without_count names (take most [])) refl }
+
+pub after_piece : (slice : Option Slice) (nodes : List NodeOf) (names : List (List ℕ)) → FitNames names (map (λ s. slicing (slice_view s)) (option_to_list slice) ++ nodes) → FitNames names nodes
+after_piece None nodes names fits = fits
+after_piece (Some slice) nodes names fits =
+    let r = fits.result in
+    record {
+      result = record { names = r.names; rows = first_rows slice.top (drop slice.skip r.rows); count = counted (slice_view slice) r };
+      names_are = fits.names_are;
+      fit = fits.fit.1 _ refl;
+    }
+
+-- columns that are selected next are there
+pub next_within : (places : List ℕ) (nodes : List NodeOf) (names : List (List ℕ)) → FitNames names (projecting places ∷ nodes) → All (λ place. place < length names) places
+next_within places nodes names fits = subst (λ ns. All (λ place. place < length ns) places) fits.names_are fits.fit.0

@@ -1,30 +1,36 @@
 -- Where no steps are left, the rows that a run has kept are its answer at the end, or what is put in order for it, and first rows of that before.
-use Rattle.std.proofs.Common.{◌≡◌, ℕ, false, Option, Some, None, List, [], ◌++◌, append-nil, drop, length, map, refl, sym, ap, ◌∙◌, string_bytes}
+use Rattle.std.proofs.Common.{◌≡◌, ℕ, false, Option, Some, None, List, [], ◌∷◌, ◌++◌, append-nil, drop, length, map, refl, sym, ap, ◌∙◌, string_bytes}
 use Rattle.std.specs.Prelude.{IfSome, option_and_then}
+use Rattle.std.specs.Option.{unwrap_or}
 use Rattle.std.proofs.lemmas.List.{length-map}
 use Rattle.cell_types.specs.Value.{CellValue}
 use Rattle.table_store.specs.Table.{TableOf}
+use Rattle.query_meaning.specs.Apply.{names_at, values_at}
+use Rattle.query_meaning.specs.Meaning.{selected_names}
+use Rattle.query_meaning.specs.Order.{Item}
 use Rattle.block_filter.specs.Conditions.{rows_joined, ConditionsInTurn}
-use Rattle.query_plan.specs.Plan.{PlanOf, needed, node_view, nodes_result}
+use Rattle.query_plan.specs.Plan.{PlanOf, needed, node_view, nodes_result, select_nodes, sorting}
 use Rattle.query_plan.specs.Scan.{rows_of_blocks}
-use Rattle.query_plan.specs.declared.plan.Slice as plan
 use Rattle.result_rows.specs.Rows.{BeginWith, OrderedOf, RowsOf}
 use Rattle.query_exec.specs.declared.front.FirstRows.{FirstRows}
-use Rattle.query_exec.specs.declared.kept.Kept.{Kept}
+use Rattle.result_rows.specs.declared.kept.Kept.{Kept}
 use Rattle.query_exec.specs.declared.run.Run.{Run}
 use Rattle.query_exec.specs.declared.run.Stage.TheVariants.{Ended, Reading}
 use Rattle.query_exec.specs.declared.sink.Sink.{Sink}
 use Rattle.query_exec.specs.declared.sink.Sink.TheVariants.{Aggregate, Collect, Slice, Sorted, TopN}
 use Rattle.query_exec.specs.Answer.{before_order}
 use Rattle.query_exec.specs.Steps.{without_count}
-use Rattle.query_exec.specs.Kept.{kept_names, AreKeptRows}
+use Rattle.result_rows.specs.Kept.{kept_names, kept_places, shown_places}
+use Rattle.result_rows.specs.Selected.{selected_rows}
 use Rattle.query_exec.specs.Run.{handed_rows, passed_rows, ended, reads, AreFirstRows, LendsFor, StandsFor}
-use Rattle.query_exec.specs.Sink.{sink_kept, sink_nodes, sorted_items, sorted_nodes, HasPushed, LendsKept}
-use Rattle.query_exec.proofs.KeptLemmas.{as_many}
+use Rattle.query_exec.specs.Sink.{sink_kept, sink_nodes, sorted_items, AreKeptRows, HasPushed, IsShown, LendsKept}
+use Rattle.result_rows.proofs.KeptLemmas.{as_many}
 use Rattle.query_exec.proofs.OrderLemmas.{unordered_is}
 use Rattle.query_exec.proofs.ReadLemmas.{handed_parts, passed_parts, read_rows}
 use Rattle.query_exec.proofs.RunLemmas.{some_passed}
 use Rattle.query_exec.proofs.SliceLemmas.{piece_begins}
+use Rattle.query_exec.proofs.ConditionLemmas.{selected_append}
+use Rattle.query_exec.proofs.SortedLemmas.{shown_wide, whole_nodes}
 
 -- ---- what a sink lends
 
@@ -32,13 +38,18 @@ kept_width : (kept : Kept) (front : FirstRows) → AreKeptRows kept front → le
 kept_width kept front are wide =
     ap (λ (c : _). length c.kinds) are.columns_are ∙ wide ∙ ap length (sym are.names_are) ∙ length-map front.names.now string_bytes
 
-lent_width : (sink : Sink) (front : FirstRows) → LendsKept sink (Some front) → length (sink_kept sink).columns.kinds ≡ length (kept_names (sink_kept sink))
-    → length front.columns.now.kinds ≡ length front.names.now
-lent_width (Collect kept) front lends wide = kept_width kept front lends wide
-lent_width (Slice sink) front lends wide = kept_width sink.kept front lends wide
-lent_width (TopN sink) front lends wide = absurd lends
-lent_width (Sorted sink) front lends wide = kept_width sink.kept front lends.2 wide
-lent_width (Aggregate sink) front lends wide = absurd lends
+shown_width : (kept : Kept) (shown : Option Kept) (rows : List (List CellValue)) (front : FirstRows) → IfSome shown (IsShown kept rows) → AreKeptRows (unwrap_or shown kept) front
+    → length kept.columns.kinds ≡ length (kept_names kept) → length front.columns.now.kinds ≡ length front.names.now
+shown_width kept None rows front is lends wide = kept_width kept front lends wide
+shown_width kept (Some shown) rows front is lends wide = kept_width shown front lends (shown_wide kept shown rows is wide)
+
+lent_width : (sink : Sink) (pushed : List (List CellValue)) (front : FirstRows) → HasPushed sink pushed → LendsKept sink (Some front)
+    → length (sink_kept sink).columns.kinds ≡ length (kept_names (sink_kept sink)) → length front.columns.now.kinds ≡ length front.names.now
+lent_width (Collect kept) pushed front has lends wide = kept_width kept front lends wide
+lent_width (Slice sink) pushed front has lends wide = kept_width sink.kept front lends wide
+lent_width (TopN sink) pushed front has lends wide = absurd lends
+lent_width (Sorted sink) pushed front has lends wide = shown_width sink.kept sink.shown pushed front has.shown_is lends.2 wide
+lent_width (Aggregate sink) pushed front has lends wide = absurd lends
 
 -- of rows that stay as they are
 all_first : (kept : Kept) (pushed more : List (List CellValue)) (front : FirstRows) (rows : RowsOf) → kept.columns.rows ≡ pushed → AreKeptRows kept front
@@ -49,6 +60,31 @@ all_first kept pushed more front rows has lends made =
       names_are = ap (λ (r : RowsOf). r.names) (sym same) ∙ sym lends.names_are;
       rest = more;
       rows_are = ap (λ (r : RowsOf). r.rows) (sym same) ∙ ap (λ rs. rs ++ more) (sym has ∙ ap (λ (c : _). c.rows) (sym lends.columns_are));
+    }
+
+-- of rows that are put in order, in the columns that are asked for
+picked_first : (picked : Option (List ℕ)) (items : List Item) (names : List (List ℕ)) (pushed more : List (List CellValue)) (rows : RowsOf)
+    → nodes_result (before_order (sorting items ∷ select_nodes picked)) (without_count names (pushed ++ more)) ≡ Some rows
+    → (rows.names ≡ selected_names picked names) × (rows.rows ≡ selected_rows picked pushed ++ selected_rows picked more)
+picked_first None items names pushed more rows made =
+    let same : without_count names (pushed ++ more) ≡ rows = cc in
+    (ap (λ (r : RowsOf). r.names) (sym same), ap (λ (r : RowsOf). r.rows) (sym same))
+picked_first (Some places) items names pushed more rows made =
+    let same : without_count (names_at places names) (map (values_at places) (pushed ++ more)) ≡ rows = cc in
+    (ap (λ (r : RowsOf). r.names) (sym same), ap (λ (r : RowsOf). r.rows) (sym same) ∙ selected_append (Some places) pushed more)
+
+shown_first : (kept : Kept) (shown : Option Kept) (items : List Item) (pushed more : List (List CellValue)) (front : FirstRows) (rows : RowsOf) → kept.columns.rows ≡ pushed
+    → IfSome shown (IsShown kept pushed) → AreKeptRows (unwrap_or shown kept) front
+    → nodes_result (before_order (sorting items ∷ select_nodes (shown_places shown))) (without_count (kept_names kept) (pushed ++ more)) ≡ Some rows
+    → BeginWith rows (map string_bytes front.names.now) front.columns.now.rows
+shown_first kept None items pushed more front rows has is lends made = all_first kept pushed more front rows has lends made
+shown_first kept (Some shown) items pushed more front rows has is lends made =
+    let picked = kept_places shown in
+    let first = picked_first picked items (kept_names kept) pushed more rows made in
+    record {
+      names_are = first.0 ∙ sym is.names_are ∙ sym lends.names_are;
+      rest = selected_rows picked more;
+      rows_are = first.1 ∙ ap (λ rs. rs ++ selected_rows picked more) (sym is.rows_are ∙ ap (λ (c : _). c.rows) (sym lends.columns_are));
     }
 
 -- what its step makes of more rows, before it puts them in order, begins with that
@@ -75,9 +111,9 @@ lent_first (Slice sink) pushed more front rows has lends made =
     rows_in (Some r) = r.rows
 lent_first (TopN sink) pushed more front rows has lends made = absurd lends
 lent_first (Sorted sink) pushed more front rows has lends made =
-    all_first sink.kept pushed more front rows has.rows_are lends.2
-    (ap (λ (slice : Option plan.Slice). nodes_result (before_order (sorted_nodes (sorted_items sink) None slice)) (without_count (kept_names sink.kept) (pushed ++ more))) (sym lends.1)
-    ∙ ap (λ most. nodes_result (before_order (sorted_nodes (sorted_items sink) most sink.slice)) (without_count (kept_names sink.kept) (pushed ++ more))) (sym lends.0) ∙ made)
+    shown_first sink.kept sink.shown (sorted_items sink) pushed more front rows has.rows_are has.shown_is lends.2
+    (ap (λ ns. nodes_result (before_order (ns ++ select_nodes (shown_places sink.shown))) (without_count (kept_names sink.kept) (pushed ++ more)))
+    (sym (whole_nodes sink lends.0 lends.1)) ∙ made)
 lent_first (Aggregate sink) pushed more front rows has lends made = absurd lends
 
 -- ---- what a run lends
@@ -99,7 +135,9 @@ front_is_first law run None works none lends plan table handed stands = tt
 front_is_first law run (Some front) works none lends plan table handed stands =
     let has = stands.read in
     record {
-      width = lent_width run.sink front lends (as_many (sink_kept run.sink) table.schema has.columns);
+      width =
+          let some = some_passed run (passed_rows run (handed_rows plan table handed)) has.passed works in
+          lent_width run.sink some.0 front some.2 lends (as_many (sink_kept run.sink) table.schema has.columns);
       first = λ rows is.
           let before = handed_rows plan table handed in
           let behind = rows_of_blocks table.rows (drop handed (needed plan table.rows)) in

@@ -1,7 +1,6 @@
 pub mod ConditionLemmas
 pub mod CountLemmas
 pub mod StepLemmas
-pub mod KeptLemmas
 pub mod SliceLemmas
 pub mod DayLemmas
 pub mod CutoffLemmas

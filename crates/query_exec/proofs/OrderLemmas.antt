@@ -1,8 +1,10 @@
 -- An order at the end of the steps, and the rows as they stood before it.
-use Rattle.std.proofs.Common.{◌≡◌, ℕ, Bool, true, false, Option, Some, None, List, [], ◌∷◌, ◌++◌, cond, map, refl, sym, ap, ◌∙◌, subst, append-nil}
+use Rattle.std.proofs.Common.{◌≡◌, ℕ, Bool, true, false, Option, Some, None, List, [], ◌∷◌, ◌++◌, cond, map, append_assoc, inl, inr, refl, sym, ap, ◌∙◌, subst}
 use Rattle.std.specs.Prelude.{option_and_then, option_map}
 use Rattle.std.specs.List.{list_any}
-use Rattle.std.proofs.lemmas.List.Sorted.{IsPermutation-refl}
+use Rattle.std.proofs.lemmas.Bool.{cases_Bool}
+use Rattle.query_meaning.specs.Apply.{names_at, values_at}
+use Rattle.std.proofs.lemmas.List.Sorted.{IsPermutation-map, IsPermutation-refl}
 use Rattle.cell_types.specs.Value.{CellValue}
 use Rattle.typed_trees.specs.TypedTree.{TruthExprOf}
 use Rattle.query_meaning.specs.Laws.{RowsAreInOrder}
@@ -12,10 +14,10 @@ use Rattle.block_filter.specs.Conditions.{passing_all}
 use Rattle.result_rows.specs.Rows.{AreReordered, OrderedOf, RowsOf}
 use Rattle.table_store.specs.Table.{TableOf}
 use Rattle.query_exec.specs.declared.run.Run.{Run}
-use Rattle.query_exec.specs.Answer.{before_order, unless_order, unordered_answer}
+use Rattle.query_exec.specs.Answer.{before_order, only_select, unless_order, unordered_answer}
 use Rattle.query_exec.specs.Conditions.{condition_nodes}
-use Rattle.query_exec.specs.Kept.{kept_names}
-use Rattle.query_exec.specs.Picked.{selected_rows}
+use Rattle.result_rows.specs.Kept.{kept_names}
+use Rattle.result_rows.specs.Selected.{selected_rows}
 use Rattle.query_exec.specs.Run.{conditions_of, passed_answer, passed_rows, places_of, steps_of, HasPassed, HasTakenBlocks, IsUnordered, KeepsUnordered}
 use Rattle.query_exec.specs.Sink.{sink_kept, sink_nodes, SinkEnds}
 use Rattle.query_exec.specs.Steps.{without_count}
@@ -24,26 +26,35 @@ use Rattle.query_exec.proofs.ReadLemmas.{no_steps, read_rows}
 
 -- ---- steps without an order at their end
 
-last_kept : (nodes : List NodeOf) (last : NodeOf) (more : List NodeOf) → before_order (nodes ++ last ∷ more) ≡ nodes ++ before_order (last ∷ more)
-last_kept [] last more = refl
-last_kept (node ∷ []) last more = refl
-last_kept (node ∷ next ∷ nodes) last more = ap (λ l. node ∷ l) (last_kept (next ∷ nodes) last more)
+selects_stay : (nodes : List NodeOf) → only_select nodes ≡ true → before_order nodes ≡ nodes
+selects_stay [] all = refl
+selects_stay (projecting places ∷ nodes) all = rw all refl
+selects_stay (filtering e ∷ nodes) all = absurd (cc)
+selects_stay (aggregating aggregates ∷ nodes) all = absurd (cc)
+selects_stay (grouping places aggregates ∷ nodes) all = absurd (cc)
+selects_stay (sorting items ∷ nodes) all = absurd (cc)
+selects_stay (choosing items most ∷ nodes) all = absurd (cc)
+selects_stay (slicing s ∷ nodes) all = absurd (cc)
 
-conditions_stay : (es : List TruthExprOf) → before_order (condition_nodes es) ≡ condition_nodes es
-conditions_stay [] = refl
-conditions_stay (e ∷ []) = refl
-conditions_stay (e ∷ f ∷ es) = ap (λ l. filtering e ∷ l) (conditions_stay (f ∷ es))
+node_stays : (node : NodeOf) (nodes : List NodeOf) → unless_order node ≡ node ∷ [] → before_order (node ∷ nodes) ≡ node ∷ before_order nodes
+node_stays node nodes stays = elim (cases_Bool (only_select nodes)) [
+  | inl e ↦ rw e (ap (λ l. l ++ nodes) stays ∙ ap (λ l. node ∷ l) (sym (selects_stay nodes e)))
+  | inr e ↦ rw e refl
+]
 
-selected_stay : (es : List TruthExprOf) (picked : Option (List ℕ)) → before_order (condition_nodes es ++ select_nodes picked) ≡ condition_nodes es ++ select_nodes picked
-selected_stay es None = ap before_order (append-nil (condition_nodes es)) ∙ conditions_stay es ∙ sym (append-nil (condition_nodes es))
-selected_stay es (Some places) = last_kept (condition_nodes es) (projecting places) []
+conditions_stay : (es : List TruthExprOf) (nodes : List NodeOf) → before_order (condition_nodes es ++ nodes) ≡ condition_nodes es ++ before_order nodes
+conditions_stay [] nodes = refl
+conditions_stay (e ∷ es) nodes = node_stays (filtering e) (condition_nodes es ++ nodes) refl ∙ ap (λ l. filtering e ∷ l) (conditions_stay es nodes)
+
+selected_stay : (picked : Option (List ℕ)) (nodes : List NodeOf) → before_order (select_nodes picked ++ nodes) ≡ select_nodes picked ++ before_order nodes
+selected_stay None nodes = refl
+selected_stay (Some places) nodes = node_stays (projecting places) nodes refl
 
 before_sink : (es : List TruthExprOf) (picked : Option (List ℕ)) (nodes : List NodeOf)
     → before_order (condition_nodes es ++ select_nodes picked ++ nodes) ≡ condition_nodes es ++ select_nodes picked ++ before_order nodes
-before_sink es picked [] =
-    let front = condition_nodes es ++ select_nodes picked in
-    ap before_order (append-nil front) ∙ selected_stay es picked ∙ sym (append-nil front)
-before_sink es picked (node ∷ nodes) = last_kept (condition_nodes es ++ select_nodes picked) node nodes
+before_sink es picked nodes =
+    ap before_order (append_assoc (condition_nodes es) (select_nodes picked) nodes) ∙ conditions_stay es (select_nodes picked ++ nodes)
+    ∙ ap (λ l. condition_nodes es ++ l) (selected_stay picked nodes) ∙ sym (append_assoc (condition_nodes es) (select_nodes picked) (before_order nodes))
 
 -- the answer before an order is what the sink makes of the rows that passed before it puts them in order
 pub unordered_is : (run : Run) (plan : PlanOf) (table : TableOf) (blocks : ℕ) → HasTakenBlocks run plan table blocks → map node_view run.steps.items ≡ []
@@ -101,10 +112,6 @@ some_step : (f : RowsOf → Option RowsOf) (made : Option RowsOf) (rows : RowsOf
 some_step f None rows is = absurd (cc)
 some_step f (Some mid) rows is = (mid, refl, is)
 
-as_it_is : (made : Option RowsOf) (rows : RowsOf) → option_and_then (nodes_result []) made ≡ Some rows → made ≡ Some rows
-as_it_is None rows is = absurd (cc)
-as_it_is (Some mid) rows is = is
-
 itself : (made : Option RowsOf) (rows : RowsOf) → made ≡ Some rows → (before : RowsOf) × (made ≡ Some before) × AreReordered before rows
 itself made rows is = (rows, is, record { names = refl; moved = IsPermutation-refl rows.rows })
 
@@ -118,21 +125,40 @@ one_order law items r rows is = by_faults (list_any (order_faults items) r.rows)
         let same : record { names = r.names; rows = sorted (rows_cmp items) r.rows; count = r.count } ≡ rows = cc in
         subst (AreReordered r) same (record { names = refl; moved = law.rows items r.rows })
 
-last_moves : RowsAreInOrder → (node : NodeOf) (r rows : RowsOf) → nodes_result (node ∷ []) r ≡ Some rows
-    → (before : RowsOf) × (nodes_result (unless_order node) r ≡ Some before) × AreReordered before rows
-last_moves law (filtering e) r rows is = itself _ rows is
-last_moves law (aggregating aggregates) r rows is = itself _ rows is
-last_moves law (grouping places aggregates) r rows is = itself _ rows is
-last_moves law (sorting items) r rows is = (r, refl, one_order law items r rows (as_it_is (node_result (sorting items) r) rows is))
-last_moves law (choosing items most) r rows is = itself _ rows is
-last_moves law (slicing s) r rows is = itself _ rows is
-last_moves law (projecting places) r rows is = itself _ rows is
+-- columns that are selected of moved rows are moved
+selects_move : (nodes : List NodeOf) (before r rows : RowsOf) → only_select nodes ≡ true → AreReordered before r → nodes_result nodes r ≡ Some rows
+    → (made : RowsOf) × (nodes_result nodes before ≡ Some made) × AreReordered made rows
+selects_move [] before r rows all moved is = let same : r ≡ rows = cc in (before, refl, subst (AreReordered before) same moved)
+selects_move (projecting places ∷ nodes) before r rows all moved is =
+    selects_move nodes (record { names = names_at places before.names; rows = map (values_at places) before.rows; count = before.count })
+    (record { names = names_at places r.names; rows = map (values_at places) r.rows; count = r.count }) rows all
+    (record { names = ap (names_at places) moved.names; moved = IsPermutation-map (values_at places) before.rows r.rows moved.moved }) is
+selects_move (filtering e ∷ nodes) before r rows all moved is = absurd (cc)
+selects_move (aggregating aggregates ∷ nodes) before r rows all moved is = absurd (cc)
+selects_move (grouping places aggregates ∷ nodes) before r rows all moved is = absurd (cc)
+selects_move (sorting items ∷ nodes) before r rows all moved is = absurd (cc)
+selects_move (choosing items most ∷ nodes) before r rows all moved is = absurd (cc)
+selects_move (slicing s ∷ nodes) before r rows all moved is = absurd (cc)
+
+last_moves : RowsAreInOrder → (node : NodeOf) (nodes : List NodeOf) (r rows : RowsOf) → only_select nodes ≡ true → nodes_result (node ∷ nodes) r ≡ Some rows
+    → (before : RowsOf) × (nodes_result (unless_order node ++ nodes) r ≡ Some before) × AreReordered before rows
+last_moves law (filtering e) nodes r rows all is = itself _ rows is
+last_moves law (aggregating aggregates) nodes r rows all is = itself _ rows is
+last_moves law (grouping places aggregates) nodes r rows all is = itself _ rows is
+last_moves law (sorting items) nodes r rows all is =
+    let step = some_step (nodes_result nodes) (node_result (sorting items) r) rows is in
+    selects_move nodes r step.0 rows all (one_order law items r step.0 step.1) step.2
+last_moves law (choosing items most) nodes r rows all is = itself _ rows is
+last_moves law (slicing s) nodes r rows all is = itself _ rows is
+last_moves law (projecting places) nodes r rows all is = itself _ rows is
 
 pub nodes_move : RowsAreInOrder → (nodes : List NodeOf) (r rows : RowsOf) → nodes_result nodes r ≡ Some rows
     → (before : RowsOf) × (nodes_result (before_order nodes) r ≡ Some before) × AreReordered before rows
 nodes_move law [] r rows is = itself _ rows is
-nodes_move law (node ∷ []) r rows is = last_moves law node r rows is
-nodes_move law (node ∷ next ∷ nodes) r rows is =
-    let step = some_step (nodes_result (next ∷ nodes)) (node_result node r) rows is in
-    let rest = nodes_move law (next ∷ nodes) step.0 rows step.2 in
-    (rest.0, ap (option_and_then (nodes_result (before_order (next ∷ nodes)))) step.1 ∙ rest.1, rest.2)
+nodes_move law (node ∷ nodes) r rows is = elim (cases_Bool (only_select nodes)) [
+  | inl e ↦ rw e (last_moves law node nodes r rows e is)
+  | inr e ↦
+      (let step = some_step (nodes_result nodes) (node_result node r) rows is in
+      let rest = nodes_move law nodes step.0 rows step.2 in
+      rw e (rest.0, ap (option_and_then (nodes_result (before_order nodes))) step.1 ∙ rest.1, rest.2))
+]

@@ -23,12 +23,12 @@ use Rattle.query_exec.specs.declared.run.Run.{Run}
 use Rattle.query_exec.specs.Answer.{plan_answer}
 use Rattle.query_exec.specs.Conditions.{condition_nodes}
 use Rattle.query_exec.specs.Steps.{without_count}
-use Rattle.query_exec.specs.Kept.{kept_names}
-use Rattle.query_exec.specs.Picked.{selected_rows}
+use Rattle.result_rows.specs.Kept.{kept_names}
+use Rattle.result_rows.specs.Selected.{selected_rows}
 use Rattle.query_exec.specs.Run.{conditions_of, handed_rows, next_block, passed_answer, passed_rows, places_of, steps_of, wanted_block, HasPassed, HasTakenBlocks, HasTakenIn, IsReady}
 use Rattle.query_exec.specs.Sink.{room_behind, sink_kept, sink_nodes}
 use Rattle.query_exec.proofs.NeededLemmas.{all_rows, drop_one, first_left, more_rows, needed_behind, wanted_is_first}
-use Rattle.query_exec.proofs.KeptLemmas.{as_many, still_kept}
+use Rattle.result_rows.proofs.KeptLemmas.{as_many, still_kept}
 use Rattle.query_exec.proofs.ConditionLemmas.{parts_fit, parts_give, selected_joined}
 
 -- ---- the blocks that were handed in

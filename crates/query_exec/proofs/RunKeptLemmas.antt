@@ -1,23 +1,18 @@
 -- What a run keeps of the rows that passed.
 use Rattle.std.proofs.Common.{◌≡◌, ℕ, List, Option, Some, None, length, min, take, sym, ap, ◌∙◌, arith}
 use Rattle.std.specs.Prelude.{option_map}
-use Rattle.std.specs.Option.{unwrap_or}
 use Rattle.std.proofs.lemmas.List.{length-take}
 use Rattle.std.proofs.lemmas.List.Sorted.{length_permutation}
 use Rattle.std.proofs.lemmas.Option.{same_Some}
 use Rattle.cell_types.specs.Value.{CellValue}
 use Rattle.row_eval.specs.Laws.{FaultsAreForeseen}
 use Rattle.query_meaning.specs.Laws.{RowsAreInOrder}
-use Rattle.query_meaning.specs.Order.{Item, rows_cmp, sorted}
-use Rattle.query_plan.specs.Plan.{sorting}
-use Rattle.query_plan.specs.Rewrite.{chosen}
+use Rattle.query_meaning.specs.Order.{rows_cmp, sorted}
 use Rattle.sort_rows.specs.Best.{best_rows}
 use Rattle.aggregate_rows.specs.Gathered.{group_keys}
-use Rattle.odata_query.specs.Aggregate.{NamedAggregateOf}
-use Rattle.query_exec.specs.declared.run_kept.RunKept.TheVariants.{Groups, Ordered}
+use Rattle.query_exec.specs.declared.run_kept.RunKept.TheVariants.{Groups}
 use Rattle.query_exec.specs.declared.top_n.TopNSink.{TopNSink}
-use Rattle.query_exec.specs.RunKept.{step_keeps}
-use Rattle.query_exec.specs.Steps.{aggregate_node}
+use Rattle.query_exec.specs.RunKept.{groups_keep}
 use Rattle.query_exec.specs.Sink.{sink_items, HasBest}
 use Rattle.query_exec.proofs.TopNLemmas.{safe_never_faults}
 
@@ -36,14 +31,7 @@ as_many_best faults law sink rows has =
     let same = same_Some _ _ (sym (best sink.kept.columns.rows) ∙ has.first ∙ best rows) in
     sym (long sink.kept.columns.rows) ∙ ap length same ∙ long rows
 
--- that many groups are what a step of aggregates keeps
-pub groups_kept : (places : Option (List ℕ)) (aggregates : List NamedAggregateOf) (rows : List (List CellValue)) (count : ℕ) → count ≡ length (group_keys places rows)
-    → Groups count ≡ step_keeps (aggregate_node places aggregates) rows
-groups_kept None aggregates rows count e = ap Groups e
-groups_kept (Some places) aggregates rows count e = ap Groups e
-
--- and that many rows are what an order keeps, of all or of the first ones
-pub order_kept : (items : List Item) (most : Option ℕ) (rows : List (List CellValue)) (len : ℕ) → len ≡ length rows
-    → Ordered (min (unwrap_or most len) len) ≡ step_keeps (chosen (sorting items) most) rows
-order_kept items None rows len is = let same : min len len ≡ length rows = omega (arith, is) in ap Ordered same
-order_kept items (Some most) rows len is = ap (λ n. Ordered (min most n)) is
+-- that many groups are kept
+pub groups_kept : (places : Option (List ℕ)) (rows : List (List CellValue)) (count : ℕ) → count ≡ length (group_keys places rows) → Groups count ≡ groups_keep places rows
+groups_kept None rows count e = ap Groups e
+groups_kept (Some places) rows count e = ap Groups e

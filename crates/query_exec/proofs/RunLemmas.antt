@@ -26,8 +26,8 @@ use Rattle.query_exec.specs.Steps.{without_count, GivesResult}
 use Rattle.query_exec.specs.Fault.{exec_fault}
 use Rattle.row_eval.specs.declared.fault.EvalFault.{EvalFault}
 use Rattle.row_eval.specs.declared.fault.EvalFault.TheVariants as eval
-use Rattle.query_exec.specs.Kept.{kept_names, AreKeptOf}
-use Rattle.query_exec.specs.Picked.{selected_rows}
+use Rattle.result_rows.specs.Kept.{kept_names, AreKeptOf}
+use Rattle.result_rows.specs.Selected.{selected_rows}
 use Rattle.query_exec.specs.Run.{conditions_of, handed_block, handed_rows, next_block, passed_answer, passed_rows, places_of, run_length, steps_of, wanted_block, HasPassed, HasTakenBlocks, HasTakenIn, IsRunAnswer, IsReady, MayTakeIn, RunGoesOn, StandsFor, StepsTo}
 use Rattle.query_exec.specs.Sink.{room_behind, sink_kept, sink_nodes, spare_of, AreFound, SinkGives, HasPushed, MayFinish, MayPush, PushesOn}
 use Rattle.query_exec.proofs.CountLemmas.{few_pass, passed_count}

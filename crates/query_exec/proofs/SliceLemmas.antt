@@ -16,8 +16,8 @@ use Rattle.result_rows.specs.Rows.{RowsOf}
 use Rattle.query_exec.specs.declared.sink.Sink.TheVariants as sink
 use Rattle.query_exec.specs.declared.slice.SliceSink.{SliceSink}
 use Rattle.query_exec.specs.Steps.{without_count}
-use Rattle.query_exec.specs.Kept.{kept_names, kept_places, HasKept}
-use Rattle.query_exec.specs.Picked.{selected_rows}
+use Rattle.result_rows.specs.Kept.{kept_names, kept_places, HasKept}
+use Rattle.result_rows.specs.Selected.{selected_rows}
 use Rattle.query_exec.specs.Sink.{first_result, room_behind, spare_of, AreFound, HasPiece, PushesOn, SinkGives}
 use Rattle.query_exec.proofs.CountLemmas.{first_selected, selected_long}
 

@@ -28,9 +28,9 @@ use Rattle.query_exec.specs.declared.sink.Sink.TheVariants as sink
 use Rattle.query_exec.specs.declared.top_n.TopNSink.{TopNSink}
 use Rattle.query_exec.specs.Steps.{without_count}
 use Rattle.query_exec.specs.Items.{none_can_fault, ItemsFit}
-use Rattle.query_exec.specs.Kept.{kept_names, kept_places, HasKept, HasReduced}
-use Rattle.query_exec.specs.declared.kept.Kept.{Kept}
-use Rattle.query_exec.specs.Picked.{selected_rows}
+use Rattle.result_rows.specs.Kept.{kept_names, kept_places, HasKept, HasReduced}
+use Rattle.result_rows.specs.declared.kept.Kept.{Kept}
+use Rattle.result_rows.specs.Selected.{selected_rows}
 use Rattle.query_exec.specs.Sink.{sink_items, MayPush, PushesOn, SinkGives}
 use Rattle.query_exec.specs.Cutoffs.{HasCutoff}
 use Rattle.query_exec.specs.TopN.{AreBestOf, AreFirst, AreTimely, HasCutRows}

@@ -8,9 +8,9 @@ use Rattle.query_meaning.specs.Filter.{passes}
 use Rattle.query_meaning.specs.Order.{Item}
 use Rattle.row_columns.specs.Picked.{values_at}
 use Rattle.sort_rows.specs.Cutoffs.{first_place, ComesLate, HasCalendarDays}
-use Rattle.query_exec.specs.declared.kept.Kept.{Kept}
+use Rattle.result_rows.specs.declared.kept.Kept.{Kept}
 use Rattle.query_exec.specs.declared.top_n.TopNSink.{TopNSink}
-use Rattle.query_exec.specs.Kept.{kept_places}
+use Rattle.result_rows.specs.Kept.{kept_places}
 
 -- the column of a block that is kept in a place
 abbrev pub IsSourceOf : Option (List ℕ) → ℕ → ℕ → Type 0

@@ -8,8 +8,6 @@ pub use Rattle.block_filter.specs.Conditions as Filters
 pub mod Fault
 pub mod Answer
 pub mod Conditions
-pub mod Picked
-pub mod Kept
 pub mod Steps
 pub mod Items
 pub mod Cutoffs

@@ -23,8 +23,8 @@ use Rattle.result_rows.specs.Rows.{BeginWith, OrderedOf, RowsOf}
 use Rattle.query_exec.specs.Answer.{before_order, plan_answer, unordered_answer}
 use Rattle.query_exec.specs.Conditions.{condition_nodes}
 use Rattle.query_exec.specs.Steps.{without_count}
-use Rattle.query_exec.specs.Kept.{kept_names, kept_places, AreKeptOf, HasSameColumns}
-use Rattle.query_exec.specs.Picked.{selected_rows}
+use Rattle.result_rows.specs.Kept.{kept_names, kept_places, AreKeptOf, HasSameColumns}
+use Rattle.result_rows.specs.Selected.{selected_rows}
 use Rattle.query_exec.specs.Sink.{room_behind, sink_kept, sink_nodes, HasPushed}
 
 -- the number of the block that is needed after those that were handed in, where there is one

@@ -1,6 +1,7 @@
 -- What takes in the rows that pass the conditions of a plan. The law of a sink: where rows are pushed, piece by piece, what it finishes with is what its step
 -- makes of all of them.
-use Rattle.std.specs.Prelude.{◌≡◌, ◌<◌, ◌-◌, ◌^◌, ◌++◌, ⊤, ℕ, true, false, List, [], ◌∷◌, Option, Some, None, drop, length, map, option_to_list}
+use Rattle.std.specs.Prelude.{◌≡◌, ◌<◌, ◌-◌, ◌^◌, ◌++◌, ⊤, ℕ, true, false, List, [], ◌∷◌, Option, Some, None, IfSome, drop, length, map, option_to_list, string_bytes}
+use Rattle.std.specs.Option.{unwrap_or}
 use Rattle.std.specs.List.{All}
 use Rattle.cell_types.specs.Value.{CellValue}
 use Rattle.odata_query.specs.Aggregate.{aggregates_view}
@@ -12,17 +13,17 @@ use Rattle.sort_rows.specs.Cutoffs.{HasCalendarDays}
 use Rattle.sort_rows.specs.Runs.{HasInRuns}
 use Rattle.aggregate_rows.specs.Gathered.{Gathers}
 use Rattle.block_filter.specs.declared.block.Passed.{Passed}
-use Rattle.query_meaning.specs.Meaning.{ResultOf, first_rows}
+use Rattle.query_meaning.specs.Meaning.{ResultOf, first_rows, selected_names}
 use Rattle.query_meaning.specs.Order.{Item}
 use Rattle.query_plan.specs.Fitting.{NodesFit}
-use Rattle.query_plan.specs.Plan.{NodeOf, choosing, nodes_result, slice_view, slicing, sorting}
+use Rattle.query_plan.specs.Plan.{NodeOf, choosing, nodes_result, select_nodes, slice_view, slicing, sorting}
 use Rattle.query_plan.specs.Push.{room_of}
 use Rattle.query_plan.specs.declared.plan.Slice as plan
 use Rattle.query_plan.specs.Rewrite.{chosen}
 use Rattle.result_rows.specs.Rows.{OrderedOf, RowsOf}
 use Rattle.query_exec.specs.declared.aggregate.AggregateSink.{AggregateSink}
 use Rattle.query_exec.specs.declared.front.FirstRows.{FirstRows}
-use Rattle.query_exec.specs.declared.kept.Kept.{Kept}
+use Rattle.result_rows.specs.declared.kept.Kept.{Kept}
 use Rattle.query_exec.specs.declared.sink.Sink.{Sink}
 use Rattle.query_exec.specs.declared.sink.Sink.TheVariants.{Aggregate, Collect, Slice, Sorted, TopN}
 use Rattle.query_exec.specs.declared.slice.SliceSink.{SliceSink}
@@ -32,8 +33,8 @@ use Rattle.query_exec.specs.Answer.{before_order}
 use Rattle.query_exec.specs.Cutoffs.{HasCutoff}
 use Rattle.query_exec.specs.Steps.{aggregate_node, without_count}
 use Rattle.query_exec.specs.Items.{none_can_fault, ItemsFit}
-use Rattle.query_exec.specs.Kept.{kept_names, kept_places, AreKeptOf, AreKeptRows, HasSameColumns}
-use Rattle.query_exec.specs.Picked.{selected_rows}
+use Rattle.result_rows.specs.Kept.{kept_names, kept_places, shown_places, AreKeptOf, HasKept, HasSameColumns}
+use Rattle.result_rows.specs.Selected.{selected_kinds, selected_rows}
 
 abbrev pub sink_items : TopNSink → List Item
 sink_items sink = map order_view sink.items.items
@@ -52,17 +53,27 @@ sink_kept (Aggregate sink) = sink.kept
 abbrev pub sorted_nodes : List Item → Option ℕ → Option plan.Slice → List NodeOf
 sorted_nodes items most slice = chosen (sorting items) most ∷ map (λ s. slicing (slice_view s)) (option_to_list slice)
 
+-- and the columns that are asked for of these
+abbrev pub shown_nodes : SortedSink → List NodeOf
+shown_nodes sink = sorted_nodes (sorted_items sink) sink.most sink.slice ++ select_nodes (shown_places sink.shown)
+
 -- the steps that it does
 abbrev pub sink_nodes : Sink → List NodeOf
 sink_nodes (Collect kept) = []
 sink_nodes (Slice sink) = slicing (slice_view sink.slice) ∷ []
 sink_nodes (TopN sink) = choosing (sink_items sink) sink.most ∷ []
-sink_nodes (Sorted sink) = sorted_nodes (sorted_items sink) sink.most sink.slice
+sink_nodes (Sorted sink) = shown_nodes sink
 sink_nodes (Aggregate sink) = aggregate_node (optional_numbers sink.places) (aggregates_view sink.aggregates) ∷ []
 
 -- the first rows of a result, under its names
 abbrev pub first_result : Option ℕ → ResultOf → ResultOf
 first_result most r = record { names = r.names; rows = first_rows most r.rows; count = r.count }
+
+-- some steps fit rows under these names
+pub record FitNames (names : List (List ℕ)) (nodes : List NodeOf) : Type 0 where
+  pub result : ResultOf
+  pub names_are : result.names ≡ names
+  pub fit : NodesFit nodes result
 
 -- ---- the rows that were pushed
 
@@ -78,9 +89,18 @@ pub record HasBest (sink : TopNSink) (rows : List (List CellValue)) : Type 0 whe
   pub cutoff : HasCutoff sink
   pub first : best_rows (sink_items sink) sink.most sink.kept.columns.rows ≡ best_rows (sink_items sink) sink.most rows
 
+-- columns that are asked for of all columns of a table: they have the same rows
+pub record IsShown (kept : Kept) (rows : List (List CellValue)) (shown : Kept) : Type 0 where
+  pub all : kept_places kept ≡ None
+  pub within : IfSome (kept_places shown) (All (λ place. place < length (kept_names kept)))
+  pub names_are : kept_names shown ≡ selected_names (kept_places shown) (kept_names kept)
+  pub kinds_are : shown.columns.kinds ≡ selected_kinds (kept_places shown) kept.columns.kinds
+  pub rows_are : shown.columns.rows ≡ selected_rows (kept_places shown) rows
+
 -- of an order all rows are kept, and are in runs
 pub record HasOrder (sink : SortedSink) (rows : List (List CellValue)) : Type 0 where
   pub rows_are : sink.kept.columns.rows ≡ rows
+  pub shown_is : IfSome sink.shown (IsShown sink.kept rows)
   pub runs_are : HasInRuns (sorted_items sink) sink.runs sink.kept.columns.rows
 
 -- for aggregates none is kept
@@ -124,6 +144,12 @@ pub record MayPush (sink : Sink) (block : TableOf) (found : Passed) : Type 0 whe
   pub few : length (before ++ selected_rows (kept_places (sink_kept sink)) passing) < 2 ^ 64
   pub fits : NodesFit (sink_nodes sink) (without_count (kept_names (sink_kept sink)) (before ++ selected_rows (kept_places (sink_kept sink)) passing))
 
+-- rows of a block are kept in the columns that are asked for, unless all are
+abbrev pub KeepsShown : Option Kept → Option Kept → List (List CellValue) → Type 0
+KeepsShown None None rows = ⊤
+KeepsShown (Some old) (Some new) rows = HasKept old new (selected_rows (kept_places old) rows)
+KeepsShown _ _ rows = ⊥
+
 -- they are pushed, in the columns that are picked
 pub record PushesOn (old new : Sink) (rows : List (List CellValue)) (found : Passed) : Type 0 where
   pub nodes : sink_nodes new ≡ sink_nodes old
@@ -133,10 +159,15 @@ pub record PushesOn (old new : Sink) (rows : List (List CellValue)) (found : Pas
 
 -- ---- before the finish
 
--- rows that are put in order are lent, unless a piece of the order is asked for
+-- the names and the rows that are kept, as they are lent
+pub record AreKeptRows (kept : Kept) (front : FirstRows) : Type 0 where
+  pub names_are : map string_bytes front.names.now ≡ kept_names kept
+  pub columns_are : front.columns.now ≡ kept.columns
+
+-- rows that are put in order are lent, in the columns that are asked for, unless a piece of the order is
 abbrev pub LendsWhole : SortedSink → Option FirstRows → Type 0
 LendsWhole sink None = ⊤
-LendsWhole sink (Some front) = (sink.most ≡ None) × (sink.slice ≡ None) × AreKeptRows sink.kept front
+LendsWhole sink (Some front) = (sink.most ≡ None) × (sink.slice ≡ None) × AreKeptRows (unwrap_or sink.shown sink.kept) front
 
 -- a sink whose step makes of rows what it has kept of them, or puts that in order, lends that, and another lends nothing
 abbrev pub LendsKept : Sink → Option FirstRows → Type 0

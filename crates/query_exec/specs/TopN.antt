@@ -7,8 +7,8 @@ use Rattle.sort_rows.specs.Best.{best_rows}
 use Rattle.query_exec.specs.declared.top_n.TopNSink.{TopNSink}
 use Rattle.query_exec.specs.Cutoffs.{HasCutoff}
 use Rattle.query_exec.specs.Items.{ItemsFit}
-use Rattle.query_exec.specs.Kept.{kept_places, HasSameColumns}
-use Rattle.query_exec.specs.Picked.{selected_rows}
+use Rattle.result_rows.specs.Kept.{kept_places, HasSameColumns}
+use Rattle.result_rows.specs.Selected.{selected_rows}
 use Rattle.query_exec.specs.Sink.{sink_items}
 
 -- of the rows of a block by their numbers the new ones are enough after those that are kept

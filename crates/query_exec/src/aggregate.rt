@@ -5,12 +5,11 @@ ghost use Rattle.odata_query.specs.Query.{optional_numbers};
 ghost use Rattle.query_exec.specs.declared.sink.Sink.TheVariants as sink;
 ghost use Rattle.query_exec.specs.Sink.{HasPushed, SinkGives, MayFinish, MayPush, PushesOn};
 
-use crate::kept::Kept;
 use crate::names::aggregate_names;
 use aggregate_rows::Aggregator;
 use block_filter::Passed;
 use odata_query::NamedAggregate;
-use result_rows::Rows;
+use result_rows::{Kept, Rows};
 use row_selection::Selection;
 use std::alloc::{AllocError, Global};
 use table_store::Block;

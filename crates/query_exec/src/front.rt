@@ -1,8 +1,9 @@
 //! Rows that are lent before the answer is there.
 ghost use Rattle.std.specs.Prelude.{◌≡◌, length, map, string_bytes};
 ghost use Rattle.query_exec.specs.Answer.{OrdersMoveRows};
+ghost use Rattle.query_exec.specs.Sink.{AreKeptRows};
 
-use result_rows::OrderedRows;
+use result_rows::{Kept, OrderedRows};
 use row_columns::Columns;
 
 /// The names of an answer, and its first rows.
@@ -12,7 +13,7 @@ pub struct FirstRows<'r> {
     pub columns: &'r Columns,
 }
 
-/// An order at the end of the steps moves rows, and does nothing else.
+/// An order at the end of the steps moves rows, and does nothing else: so does one before columns are selected there.
 pub fn orders_move_rows()
     ensures { OrdersMoveRows }
 {
@@ -29,5 +30,15 @@ pub(crate) fn stored_front(rows: &OrderedRows) -> FirstRows<'_>
     FirstRows {
         names: rows.names(),
         columns: rows.columns(),
+    }
+}
+
+/// Returns the names and the rows that are kept.
+pub(crate) fn kept_front(kept: &Kept) -> FirstRows<'_>
+    ensures { AreKeptRows kept.now result }
+{
+    FirstRows {
+        names: kept.names.as_slice(),
+        columns: &kept.columns,
     }
 }

@@ -7,7 +7,6 @@ mod aggregate;
 mod every;
 mod fault;
 mod front;
-mod kept;
 mod names;
 mod parts;
 mod run;

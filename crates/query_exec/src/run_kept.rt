@@ -17,19 +17,18 @@ pub enum RunKept {
     Groups(u64),
 }
 
-/// Returns what is kept of `rows` rows, if the first of some steps puts them in order.
+/// Returns what is kept of `rows` rows, if the first of some steps puts them in order: all of them.
 fn order_keeps(steps: &[Node], rows: u64) -> RunKept
     ensures { result ≡ order_keeps (map node_view steps.now) rows }
 {
     match steps.first() {
-        Some(Node::Sort(_)) => RunKept::Ordered(rows),
-        Some(Node::Best(_, most)) => RunKept::Ordered((*most).min(rows)),
+        Some(Node::Sort(_) | Node::Best(_, _)) => RunKept::Ordered(rows),
         Some(_) | None => RunKept::Nothing,
     }
 }
 
 impl Sink {
-    /// Returns what is kept of the rows that it took in, if `steps` come after it.
+    /// Returns what is kept of the rows that it took in, if `steps` come after it. Of the first rows in an order it counts those that are asked for.
     pub(crate) fn keeps(&self, steps: &[Node]) -> RunKept
         ensures { (rows : List (List CellValue)) → HasPushed self.now rows
             → result ≡ sink_keeps self.now (map node_view steps.now) rows }
@@ -40,10 +39,7 @@ impl Sink {
             Sink::Collect(kept) => order_keeps(steps, kept.columns.len() as u64),
             Sink::Slice(_) => RunKept::Nothing,
             Sink::TopN(sink) => RunKept::Ordered(sink.most.min(sink.kept.columns.len() as u64)),
-            Sink::Sorted(sink) => {
-                let len = sink.kept.columns.len() as u64;
-                RunKept::Ordered(sink.most.unwrap_or(len).min(len))
-            }
+            Sink::Sorted(sink) => RunKept::Ordered(sink.kept.columns.len() as u64),
             Sink::Aggregate(sink) => RunKept::Groups(sink.aggregator.group_count() as u64),
         }
     }

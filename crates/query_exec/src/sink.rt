@@ -1,20 +1,22 @@
 //! What takes in the rows that pass the conditions of a plan: it does the step after them.
-ghost use Rattle.std.specs.Prelude.{◌≡◌, ◌++◌, ◌∷◌, [], IfOk, OnOk, map, option_to_list};
+ghost use Rattle.std.specs.Prelude.{◌≡◌, ◌++◌, ◌∷◌, [], IfOk, IfSome, OnOk, length, map, option_to_list};
 ghost use Rattle.odata_query.specs.Query.{order_view};
-ghost use Rattle.query_plan.specs.Plan.{node_view, slice_view, slicing, sorting};
+ghost use Rattle.query_plan.specs.Fitting.{NodesFit};
+ghost use Rattle.query_plan.specs.Plan.{node_view, select_nodes, slice_view, slicing, sorting};
 ghost use Rattle.query_plan.specs.Rewrite.{chosen};
-ghost use Rattle.query_exec.specs.Sink.{sink_kept, sink_nodes, spare_of, LendsKept, SinkEnds, HasPushed, MayFinish, MayPush, PushesOn};
+ghost use Rattle.result_rows.specs.Kept.{kept_names, shown_places};
+ghost use Rattle.query_exec.specs.Sink.{sink_kept, sink_nodes, spare_of, FitNames, IsShown, LendsKept, SinkEnds, HasPushed, MayFinish, MayPush, PushesOn};
+ghost use Rattle.query_exec.specs.Steps.{without_count};
 
 use crate::aggregate::AggregateSink;
-use crate::front::FirstRows;
-use crate::kept::Kept;
+use crate::front::{FirstRows, kept_front};
 use crate::slice::SliceSink;
 use crate::sorted::SortedSink;
 use crate::top_n::{TopNSink, none_can_fault};
 use block_filter::Passed;
 use odata_query::OrderBy;
 use query_plan::{Node, Slice};
-use result_rows::OrderedRows;
+use result_rows::{Kept, OrderedRows};
 use sort_rows::SortedRuns;
 use std::alloc::{AllocError, Global};
 use table_store::Block;
@@ -46,10 +48,34 @@ fn take_slice(steps: &mut Vec<Node>) -> Option<Slice>
     Some(slice)
 }
 
+/// Takes out the first of some steps if it selects columns, and returns no rows yet in these columns of those that are kept. It looks for none if not all of a
+/// table are kept.
+fn take_shown(alloc: Global, kept: &Kept, steps: &mut Vec<Node>) -> Result<Option<Kept>, AllocError>
+    requires width { length kept.now.columns.kinds ≡ length (kept_names kept.now) }
+    requires fit { FitNames (kept_names kept.now) (map node_view steps.old.items) }
+    ensures nodes { IfOk result (λ shown. map node_view steps.old.items
+        ≡ select_nodes (shown_places shown) ++ map node_view steps.new.items) }
+    ensures shown { IfOk result (λ shown. IfSome shown (IsShown kept.now [])) }
+{
+    if steps.is_empty() || kept.places.is_some() {
+        return Ok(None);
+    }
+    match steps.remove(0) {
+        Node::Project(places) => Ok(Some(kept.picked(alloc, places)?)),
+        step => {
+            steps.insert(0, step)?;
+            Ok(None)
+        }
+    }
+}
+
 impl Sink {
     /// Takes out the first of some steps if a sink does it, and what the sink does of those after it, and returns that sink; else a sink of all rows.
     pub(crate) fn of(alloc: Global, kept: Kept, steps: &mut Vec<Node>) -> Result<Sink, AllocError>
-        requires { kept.columns.rows ≡ [] }
+        requires none { kept.columns.rows ≡ [] }
+        requires width { length kept.columns.kinds ≡ length (kept_names kept) }
+        requires fit { NodesFit (map node_view steps.old.items)
+            (without_count (kept_names kept) []) }
         ensures nodes { IfOk result (λ sink.
             sink_nodes sink ++ map node_view steps.new.items ≡ map node_view steps.old.items) }
         ensures kept { IfOk result (λ sink. sink_kept sink ≡ kept) }
@@ -81,7 +107,7 @@ impl Sink {
     }
 
     /// Returns the sink of the first `most` rows in the order of items, or of all. If the rows are put in order as they come, it does a piece of them too that
-    /// is first of `steps`, and takes that out. If it can do neither, it is a sink of all rows, and the order is put before `steps`.
+    /// is first of `steps`, and the columns that are selected next, and takes these out. If it can do neither, it is a sink of all rows, and the order is put before `steps`.
     fn in_order(
         alloc: Global,
         kept: Kept,
@@ -89,7 +115,10 @@ impl Sink {
         most: Option<u64>,
         steps: &mut Vec<Node>,
     ) -> Result<Sink, AllocError>
-        requires { kept.columns.rows ≡ [] }
+        requires none { kept.columns.rows ≡ [] }
+        requires width { length kept.columns.kinds ≡ length (kept_names kept) }
+        requires fit { NodesFit (chosen (sorting (map order_view items.items)) most
+            ∷ map node_view steps.old.items) (without_count (kept_names kept) []) }
         ensures nodes { IfOk result (λ sink. sink_nodes sink ++ map node_view steps.new.items
             ≡ chosen (sorting (map order_view items.items)) most ∷ map node_view steps.old.items) }
         ensures kept { IfOk result (λ sink. sink_kept sink ≡ kept) }
@@ -98,8 +127,10 @@ impl Sink {
         if most.unwrap_or(u64::MAX) > MOST_KEPT {
             if let Some(runs) = SortedRuns::new(alloc, &items)? {
                 let slice = take_slice(steps);
+                let shown = take_shown(alloc, &kept, steps)?;
                 return Ok(Sink::Sorted(SortedSink {
                     kept,
+                    shown,
                     items,
                     runs,
                     most,
@@ -151,17 +182,10 @@ impl Sink {
         ensures { LendsKept self.now result }
     {
         match self {
-            Sink::Collect(kept) => Some(kept.lent()),
-            Sink::Slice(sink) => Some(sink.kept.lent()),
-            Sink::Sorted(
-                SortedSink {
-                    kept,
-                    most: None,
-                    slice: None,
-                    ..
-                },
-            ) => Some(kept.lent()),
-            Sink::TopN(_) | Sink::Sorted(_) | Sink::Aggregate(_) => None,
+            Sink::Collect(kept) => Some(kept_front(kept)),
+            Sink::Slice(sink) => Some(kept_front(&sink.kept)),
+            Sink::Sorted(sink) => sink.front(),
+            Sink::TopN(_) | Sink::Aggregate(_) => None,
         }
     }
 

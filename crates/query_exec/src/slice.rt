@@ -4,10 +4,9 @@ ghost use Rattle.query_plan.specs.Plan.{node_result, slice_view, slicing};
 ghost use Rattle.query_exec.specs.declared.sink.Sink.TheVariants as sink;
 ghost use Rattle.query_exec.specs.Sink.{first_result, room_behind, spare_of, SinkGives, MayFinish, MayPush, PushesOn};
 
-use crate::kept::Kept;
 use block_filter::Passed;
 use query_plan::Slice;
-use result_rows::{OrderedRows, Rows};
+use result_rows::{Kept, OrderedRows, Rows};
 use std::alloc::{AllocError, Global};
 use table_store::Block;
 

@@ -10,10 +10,9 @@ ghost use Rattle.query_exec.specs.Sink.{sink_items, SinkGives, MayFinish, MayPus
 ghost use Rattle.query_exec.specs.Cutoffs.{CutsOff, HasCutoff, IsFirstColumn};
 ghost use Rattle.query_exec.specs.TopN.{AreBestOf, AreFirst, AreTimely, HasCutRows};
 
-use crate::kept::Kept;
 use block_filter::{Passed, Rank, guessed_value, passing_numbers};
 use odata_query::OrderBy;
-use result_rows::{Rows, all_numbers};
+use result_rows::{Kept, Rows, all_numbers};
 use row_eval::{EvalFault, faults_are_foreseen};
 use row_selection::Selection;
 use sort_rows::{best_in_pieces, best_numbers, cutoff, first_place, nearness, rows_are_cut_off};

@@ -1,4 +1,6 @@
 mod RowLemmas
+pub mod KeptLemmas
+pub mod SelectedLemmas
 mod OrderedLemmas
 pub mod FrontLemmas
 pub mod CutLemmas

@@ -4,7 +4,7 @@ ghost use Rattle.row_selection.specs.Numbers.{numbers_from};
 ghost use Rattle.sort_rows.specs.Runs.{left_rows, AreNumbersLeft, AreSortedRows};
 ghost use Rattle.result_rows.specs.Ordered.{rows_in_order, HasLeft};
 
-use crate::ordered::OrderedRows;
+use crate::ordered::{OrderedRows, shown_rows};
 use crate::rows::Rows;
 use crate::skip::skip_rows;
 use row_columns::Columns;
@@ -80,8 +80,13 @@ impl OrderedRows {
           count = count;
         }) }
     {
-        let OrderedRows { rows, order, .. } = self;
+        let OrderedRows {
+            rows,
+            order,
+            shown,
+            ..
+        } = self;
         let numbers = piece_numbers(alloc, rows.columns(), order, skip, top)?;
-        rows.with_rows(alloc, numbers.as_slice(), count)
+        shown_rows(rows, shown).with_rows(alloc, numbers.as_slice(), count)
     }
 }

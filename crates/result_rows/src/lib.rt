@@ -3,12 +3,14 @@
 #![tactic(auto)]
 
 mod cut;
+mod kept;
 mod names;
 mod ordered;
 mod rows;
 mod skip;
 
 pub use cut::all_numbers;
+pub use kept::Kept;
 pub use names::{names_of, picked_names};
 pub use ordered::OrderedRows;
 pub use rows::Rows;

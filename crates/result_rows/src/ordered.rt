@@ -1,13 +1,24 @@
 //! Rows of an answer that are taken one after another (OData 4.01 URL Conventions, section 5.1.5).
-ghost use Rattle.std.specs.Prelude.{◌≡◌, ◌<◌, ◌+◌, [], List, IfOk, Some, get_or, length};
+ghost use Rattle.std.specs.Prelude.{◌≡◌, ◌<◌, ◌+◌, [], List, IfOk, IfSome, Some, get_or, length, option_map};
 ghost use Rattle.query_meaning.specs.Order.{Item, ordered};
 ghost use Rattle.sort_rows.specs.Runs.{AreInItemOrder};
-ghost use Rattle.result_rows.specs.Rows.{AreReordered};
+ghost use Rattle.result_rows.specs.Rows.{AreReordered, RowsOf};
+ghost use Rattle.result_rows.specs.Kept.{kept_names, shown_of, shown_places, AreShownOf};
+ghost use Rattle.result_rows.specs.Ordered.{places_shown, shown_rows};
+ghost use Rattle.result_rows.specs.Selected.{selected_rows};
 
+use crate::kept::Kept;
 use crate::rows::Rows;
 use sort_rows::SortedRows;
 use std::alloc::{AllocError, Global};
 use std::marker::Model;
+
+/// Some columns of rows, which are shown of them.
+#[derive(Drop)]
+pub(crate) struct Shown {
+    pub(crate) places: Option<Vec<usize>>,
+    pub(crate) rows: Rows,
+}
 
 /// Rows in their order, of which the first ones were taken. They are kept as they stood before they were put in order.
 #[derive(Drop)]
@@ -15,7 +26,41 @@ pub struct OrderedRows {
     pub(crate) rows: Rows,
     /// What puts them in order, if they are in another.
     pub(crate) order: Option<SortedRows>,
+    /// The columns that are shown, unless all are.
+    pub(crate) shown: Option<Shown>,
     taken: usize,
+}
+
+/// Returns columns that are shown of rows of which there are `count`, if they were counted.
+fn shown_columns(shown: Option<Kept>, count: Option<u64>) -> Option<Shown>
+    requires { IfSome shown (λ kept. length kept.columns.kinds ≡ length (kept_names kept)) }
+    ensures places { places_shown result ≡ shown_places shown }
+    ensures rows { (rows : RowsOf) → rows.count ≡ count
+        → shown_rows rows result ≡ shown_of rows shown }
+{
+    match shown {
+        Some(
+            Kept {
+                places,
+                names,
+                columns,
+            },
+        ) => {
+            let rows = Rows::new(names, columns, count);
+            Some(Shown { places, rows })
+        }
+        None => None,
+    }
+}
+
+/// Returns the rows as they are shown.
+pub(crate) fn shown_rows(rows: Rows, shown: Option<Shown>) -> Rows
+    ensures { result ≡ shown_rows rows shown }
+{
+    match shown {
+        Some(shown) => shown.rows,
+        None => rows,
+    }
 }
 
 impl Model for OrderedRows {
@@ -38,35 +83,43 @@ impl OrderedRows {
         OrderedRows {
             rows,
             order: None,
+            shown: None,
             taken: 0,
         }
     }
 
-    /// Returns rows in an order.
-    pub fn in_order(rows: Rows, order: SortedRows) -> OrderedRows
-        requires { (items : List Item) × AreInItemOrder items rows.rows order }
-        ensures stored { result.stored ≡ rows }
+    /// Returns rows in an order. Of each row the columns in `shown` are shown, or all.
+    pub fn in_order(rows: Rows, order: SortedRows, shown: Option<Kept>) -> OrderedRows
+        requires order { (items : List Item) × AreInItemOrder items rows.rows order }
+        requires shown { IfSome shown (AreShownOf rows.rows) }
+        ensures stored { result.stored ≡ shown_of rows shown }
         ensures taken { result.taken ≡ 0 }
-        ensures names { result.rows.names ≡ rows.names }
+        ensures names { result.rows.names ≡ (shown_of rows shown).names }
         ensures count { result.rows.count ≡ rows.count }
         ensures rows { (items : List Item) → AreInItemOrder items rows.rows order
-            → ordered items rows.rows ≡ Some result.rows.rows }
+            → option_map (selected_rows (shown_places shown)) (ordered items rows.rows)
+            ≡ Some result.rows.rows }
     {
         query_meaning::rows_are_in_order();
+        let shown = shown_columns(shown, rows.count());
         OrderedRows {
             rows,
             order: Some(order),
+            shown,
             taken: 0,
         }
     }
 
-    /// Returns the rows as they stood.
+    /// Returns the rows as they stood, as they are shown.
     pub fn table(&self) -> &Rows
         ensures rows { result.now ≡ self.now.stored }
         ensures moved { AreReordered self.now.stored self.now.rows }
         ensures count { self.now.rows.count ≡ self.now.stored.count }
     {
-        &self.rows
+        match &self.shown {
+            Some(shown) => &shown.rows,
+            None => &self.rows,
+        }
     }
 
     /// Returns how many rows there are.
@@ -106,12 +159,18 @@ impl OrderedRows {
         requires { self.taken ≡ 0 }
         ensures { IfOk result (λ rows. rows ≡ self.rows) }
     {
-        let OrderedRows { rows, order, .. } = self;
+        let OrderedRows {
+            rows,
+            order,
+            shown,
+            ..
+        } = self;
         let Some(order) = order else {
-            return Ok(rows);
+            return Ok(shown_rows(rows, shown));
         };
-        let count = rows.count();
         let numbers = order.numbers(alloc, rows.columns())?;
+        let rows = shown_rows(rows, shown);
+        let count = rows.count();
         rows.with_rows(alloc, numbers.as_slice(), count)
     }
 }

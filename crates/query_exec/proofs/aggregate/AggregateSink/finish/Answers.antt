@@ -5,7 +5,7 @@ use Rattle.query_plan.specs.Plan.{node_names}
 use Rattle.aggregate_rows.specs.Gathered.{lent_places}
 use Rattle.query_exec.specs.declared.sink.Sink.TheVariants as sink
 use Rattle.query_exec.specs.Steps.{aggregate_node, without_count}
-use Rattle.query_exec.specs.Kept.{kept_names}
+use Rattle.result_rows.specs.Kept.{kept_names}
 use Rattle.query_exec.specs.Sink.{SinkGives}
 use Rattle.query_exec.proofs.AggregateLemmas.{gathered_finishes, names_as_wide}
 use Rattle.query_exec.proofs.aggregate.AggregateSink.finish.Goals as goal

@@ -1,20 +1,23 @@
-use Rattle.std.proofs.Common.{◌≡◌, ◌++◌, ◌∙◌, ap, arith, length, map, refl, subst, sym}
+use Rattle.std.proofs.Common.{◌≡◌, [], ◌++◌, ◌∙◌, ap, arith, length, map, refl, subst, sym}
 use Rattle.std.specs.Prelude.{IfSome, is_none, option_map}
 use Rattle.std.proofs.Math.Nat.{le-max_left}
 use Rattle.csvw_meta.specs.Schema.{SchemaOf, schema_view}
 use Rattle.odata_query.specs.Query.{optional_numbers}
 use Rattle.typed_trees.specs.TypedTree.{boxed_truth}
-use Rattle.query_plan.specs.Fitting.{IsFitFor}
+use Rattle.query_plan.specs.Fitting.{IsFitFor, NodesFit}
 use Rattle.query_plan.specs.Plan.{leading, needed, node_view, plan_view, select_nodes}
 use Rattle.query_plan.specs.Scan.{test_view, up_to}
 use Rattle.query_exec.specs.Admitted.{admitted_numbers}
 use Rattle.query_exec.specs.Conditions.{condition_nodes}
-use Rattle.query_exec.specs.Kept.{kept_places, AreKeptOf}
-use Rattle.query_exec.specs.Picked.{selected_rows}
+use Rattle.result_rows.specs.Kept.{kept_places, AreKeptOf}
+use Rattle.result_rows.specs.Selected.{selected_rows}
 use Rattle.query_exec.specs.Sink.{sink_kept, sink_nodes, HasPushed}
+use Rattle.query_exec.specs.Steps.{without_count}
+use Rattle.query_meaning.specs.Meaning.{selected_names, table_names}
+use Rattle.result_rows.proofs.KeptLemmas.{as_many}
 use Rattle.query_exec.proofs.AdmittedLemmas.{admitted_are}
 use Rattle.query_exec.proofs.ConditionLemmas.{selected_none}
-use Rattle.query_exec.proofs.FitLemmas.{are_rows, places_within}
+use Rattle.query_exec.proofs.FitLemmas.{are_rows, places_within, steps_fit}
 use Rattle.query_exec.proofs.run.Run.start.Goals as goal
 
 pub new-requires : goal.new-requires
@@ -22,6 +25,19 @@ new-requires c =
     let parts = c.in_ok-conditions.field-0 in
     places_within c.nodes_in_turn.ensures c.conditions_in_turn.ensures (map boxed_truth parts.conditions.items) (optional_numbers parts.places) (map node_view parts.steps.items)
     (schema_view c.args.schema.now) (plan_view c.args.plan) (sym c.in_ok-conditions.ensures.parts) c.requires
+
+pub of-requires-clause-width : goal.of-requires-clause-width
+of-requires-clause-width c = as_many c.in_ok-kept.kept (schema_view c.args.schema.now) c.in_ok-kept.ensures.columns
+
+pub of-requires-clause-fit : goal.of-requires-clause-fit
+of-requires-clause-fit c =
+    let parts = c.in_ok-conditions.field-0 in
+    let schema = schema_view c.args.schema.now in
+    let steps = map node_view parts.steps.items in
+    subst (λ names. NodesFit steps (without_count names []))
+    (sym (c.in_ok-kept.ensures.columns.names_are ∙ ap (λ picked. selected_names picked (table_names schema)) c.in_ok-kept.ensures.places))
+    (steps_fit c.nodes_in_turn.ensures c.conditions_in_turn.ensures (map boxed_truth parts.conditions.items) (optional_numbers parts.places) steps schema (plan_view c.args.plan)
+    (sym c.in_ok-conditions.ensures.parts) c.requires)
 
 pub returns-clause-stands : goal.returns-clause-stands
 returns-clause-stands c = λ table schema rows summaries.

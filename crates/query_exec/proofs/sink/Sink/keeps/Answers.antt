@@ -1,8 +1,8 @@
-use Rattle.std.proofs.Common.{◌≡◌, length, min, ap, subst, ◌∙◌}
+use Rattle.std.proofs.Common.{length, min, ap, subst, ◌∙◌}
 use Rattle.query_exec.specs.declared.run_kept.RunKept.TheVariants.{Ordered}
 use Rattle.query_exec.specs.declared.sink.Sink.{Sink}
-use Rattle.query_exec.specs.Sink.{sorted_items, HasBest, HasGathered, HasOrder, HasPushed}
-use Rattle.query_exec.proofs.RunKeptLemmas.{as_many_best, groups_kept, order_kept}
+use Rattle.query_exec.specs.Sink.{HasBest, HasGathered, HasOrder, HasPushed}
+use Rattle.query_exec.proofs.RunKeptLemmas.{as_many_best, groups_kept}
 use Rattle.query_exec.proofs.sink.Sink.keeps.Goals as goal
 
 pub returns-in-TopN : goal.returns-in-TopN
@@ -16,15 +16,12 @@ returns-in-TopN c = λ rows has.
 
 pub returns-in-Sorted : goal.returns-in-Sorted
 returns-in-Sorted c = λ rows has.
-    let s = c.in-Sorted.sink in
     let P : Sink → Type 0 = λ x. HasPushed x rows in
-    let order : HasOrder s rows = subst P c.in-Sorted.is has in
-    let long : c.len-len.result ≡ length rows = c.len-len.ensures ∙ ap length order.rows_are in
-    rw c.in-Sorted.is
-    (ap Ordered (c.min-in-Sorted.ensures ∙ ap (λ n. min n c.len-len.result) c.unwrap_or.ensures) ∙ order_kept (sorted_items s) s.most rows c.len-len.result long)
+    let order : HasOrder c.in-Sorted.sink rows = subst P c.in-Sorted.is has in
+    rw c.in-Sorted.is (ap Ordered (c.len-in-Sorted.ensures ∙ ap length order.rows_are))
 
 pub returns-in-Aggregate : goal.returns-in-Aggregate
 returns-in-Aggregate c = λ rows has.
     let P : Sink → Type 0 = λ x. HasPushed x rows in
     let gathered : HasGathered c.in-Aggregate.sink rows = subst P c.in-Aggregate.is has in
-    rw c.in-Aggregate.is (groups_kept _ _ rows c.group_count.result (c.group_count.ensures _ _ rows gathered.gathers))
+    rw c.in-Aggregate.is (groups_kept _ rows c.group_count.result (c.group_count.ensures _ _ rows gathered.gathers))

@@ -1,8 +1,13 @@
 use Rattle.std.proofs.Common.{map, subst, sym}
 use Rattle.odata_query.specs.Query.{order_view}
 use Rattle.sort_rows.specs.Runs.{HasInRuns, HasMoreRows}
-use Rattle.query_exec.proofs.SortedLemmas.{has_more_rows, sorted_pushed}
+use Rattle.query_exec.proofs.SortedLemmas.{all_of_table, has_more_rows, sorted_pushed}
 use Rattle.query_exec.proofs.sorted.SortedSink.push.Goals as goal
+
+pub keep_shown-requires-clause-columns : goal.keep_shown-requires-clause-columns
+keep_shown-requires-clause-columns c =
+    let may = c.requires in
+    all_of_table c.args.self.now.kept c.args.self.now.shown may.before c.args.block.now.schema may.columns may.pushed.shown_is
 
 pub push-requires : goal.push-requires
 push-requires c =
@@ -11,5 +16,5 @@ push-requires c =
 
 pub returns : goal.returns
 returns c =
-    sorted_pushed c.args.self.now c.take.new.self c.push.new.self c.args.block.now.rows c.args.found c.in_ok-take.ensures
+    sorted_pushed c.args.self.now c.take.new.self c.keep_shown.new.shown c.push.new.self c.args.block.now.rows c.args.found c.in_ok-take.ensures c.in_ok-keep_shown.ensures
     (subst (λ is. HasInRuns (map order_view is) c.push.new.self c.take.new.self.columns.rows) c.deref.ensures.value c.in_ok-push.ensures)

@@ -1,5 +1,5 @@
 use Rattle.std.proofs.Common.{subst}
-use Rattle.query_exec.specs.Kept.{HasReduced}
+use Rattle.result_rows.specs.Kept.{HasReduced}
 use Rattle.query_exec.proofs.TopNLemmas.{cut_to, first_are_kept}
 use Rattle.query_exec.proofs.top_n.TopNSink.cut.Goals as goal
 

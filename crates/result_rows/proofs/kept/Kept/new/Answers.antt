@@ -8,8 +8,8 @@ use Rattle.odata_query.specs.Query.{optional_numbers}
 use Rattle.query_meaning.specs.Apply.{names_at}
 use Rattle.row_columns.specs.Kinds.{kinds_of}
 use Rattle.row_columns.specs.Picked.{kinds_at}
-use Rattle.query_exec.proofs.KeptLemmas.{kept_of}
-use Rattle.query_exec.proofs.kept.Kept.new.Goals as goal
+use Rattle.result_rows.proofs.KeptLemmas.{kept_of}
+use Rattle.result_rows.proofs.kept.Kept.new.Goals as goal
 
 pub returns-in_ok-columns-in-Some-clause-columns : goal.returns-in_ok-columns-in-Some-clause-columns
 returns-in_ok-columns-in-Some-clause-columns c =

@@ -1,15 +1,15 @@
-//! Rows of a table that a sink keeps.
+//! Rows of a table that are kept.
 ghost use Rattle.std.specs.Prelude.{◌≡◌, ◌<◌, [], IfOk, IfSome, OnOk, length};
 ghost use Rattle.std.specs.List.{All};
 ghost use Rattle.csvw_meta.specs.Schema.{schema_view};
 ghost use Rattle.odata_query.specs.Query.{optional_numbers};
 ghost use Rattle.row_columns.specs.Picked.{numbered};
-ghost use Rattle.query_exec.specs.Kept.{kept_names, kept_places, AreKeptOf, AreKeptRows, HasKept, HasReduced};
-ghost use Rattle.query_exec.specs.Picked.{selected_rows};
+ghost use Rattle.result_rows.specs.Kept.{kept_names, kept_places, AreKeptOf, ArePickedOf, HasKept, HasReduced};
+ghost use Rattle.result_rows.specs.Selected.{selected_rows};
 
-use crate::front::FirstRows;
+use crate::names::{names_of, picked_names};
+use crate::rows::Rows;
 use csvw_meta::Schema;
-use result_rows::{Rows, names_of, picked_names};
 use row_columns::Columns;
 use row_selection::Selection;
 use std::alloc::{AllocError, Global};
@@ -17,15 +17,15 @@ use table_store::Block;
 
 /// Rows of those columns of a table that are picked, or of all its columns.
 #[derive(Drop)]
-pub(crate) struct Kept {
-    pub(crate) places: Option<Vec<usize>>,
-    pub(crate) names: Vec<String>,
-    pub(crate) columns: Columns,
+pub struct Kept {
+    pub places: Option<Vec<usize>>,
+    pub names: Vec<String>,
+    pub columns: Columns,
 }
 
 impl Kept {
     /// Returns no columns, and no rows.
-    pub(crate) fn none(alloc: Global) -> Kept {
+    pub fn none(alloc: Global) -> Kept {
         Kept {
             places: None,
             names: Vec::new(alloc),
@@ -34,7 +34,7 @@ impl Kept {
     }
 
     /// Returns no rows yet.
-    pub(crate) fn new(
+    pub fn new(
         alloc: Global,
         schema: &Schema,
         places: Option<Vec<usize>>,
@@ -65,8 +65,23 @@ impl Kept {
         }
     }
 
+    /// Returns no rows yet, of those of its columns that have these places.
+    pub fn picked(&self, alloc: Global, places: Vec<usize>) -> Result<Kept, AllocError>
+        requires width { length self.now.columns.kinds ≡ length (kept_names self.now) }
+        requires within { All (λ place. place < length (kept_names self.now)) places.items }
+        ensures { IfOk result (λ made. ArePickedOf self.now places.items made) }
+    {
+        let names = picked_names(alloc, self.names.as_slice(), places.as_slice())?;
+        let columns = self.columns.picked(alloc, places.as_slice(), &[])?;
+        Ok(Kept {
+            places: Some(places),
+            names,
+            columns,
+        })
+    }
+
     /// Keeps the selected rows of a block, after the others.
-    pub(crate) fn take(
+    pub fn take(
         &mut self,
         alloc: Global,
         block: &Block<'_>,
@@ -84,25 +99,15 @@ impl Kept {
     }
 
     /// Keeps of the rows those with these numbers, in their order.
-    pub(crate) fn reduce(&mut self, alloc: Global, numbers: &[usize]) -> Result<(), AllocError>
+    pub fn reduce(&mut self, alloc: Global, numbers: &[usize]) -> Result<(), AllocError>
         requires { All (λ n. n < length self.old.columns.rows) numbers.now }
         ensures { OnOk result (HasReduced self.old self.new numbers.now) }
     {
         self.columns.put_in_order(alloc, numbers)
     }
 
-    /// Returns the names and the rows.
-    pub(crate) fn lent(&self) -> FirstRows<'_>
-        ensures { AreKeptRows self.now result }
-    {
-        FirstRows {
-            names: self.names.as_slice(),
-            columns: &self.columns,
-        }
-    }
-
     /// Returns all of the rows as an answer, and a count. It takes no memory.
-    pub(crate) fn into_rows(self, count: Option<u64>) -> Rows
+    pub fn into_rows(self, count: Option<u64>) -> Rows
         requires { length self.columns.kinds ≡ length (kept_names self) }
         ensures { result ≡ record {
           names = kept_names self;

@@ -1,15 +1,16 @@
--- Rows of a table that a sink keeps.
-use Rattle.std.specs.Prelude.{◌≡◌, ◌<◌, ◌++◌, ℕ, IfSome, List, Option, length, map, string_bytes}
+-- Rows of a table that are kept.
+use Rattle.std.specs.Prelude.{◌≡◌, ◌<◌, ◌++◌, ℕ, IfSome, List, [], Option, Some, None, length, map, string_bytes}
 use Rattle.std.specs.List.{All}
 use Rattle.cell_types.specs.Value.{CellValue}
 use Rattle.csvw_meta.specs.Schema.{SchemaOf}
 use Rattle.odata_query.specs.Query.{optional_numbers}
 use Rattle.row_columns.specs.Kinds.{kinds_of}
-use Rattle.row_columns.specs.Picked.{numbered}
+use Rattle.row_columns.specs.Picked.{kinds_at, numbered}
+use Rattle.query_meaning.specs.Apply.{names_at}
 use Rattle.query_meaning.specs.Meaning.{selected_names, table_names}
-use Rattle.query_exec.specs.declared.front.FirstRows.{FirstRows}
-use Rattle.query_exec.specs.declared.kept.Kept.{Kept}
-use Rattle.query_exec.specs.Picked.{selected_kinds}
+use Rattle.result_rows.specs.declared.kept.Kept.{Kept}
+use Rattle.result_rows.specs.Rows.{RowsOf}
+use Rattle.result_rows.specs.Selected.{selected_kinds, selected_rows}
 
 -- the columns that are picked, if so, and the names of these
 abbrev pub kept_places : Kept → Option (List ℕ)
@@ -24,10 +25,12 @@ pub record AreKeptOf (kept : Kept) (schema : SchemaOf) : Type 0 where
   pub names_are : kept_names kept ≡ selected_names (kept_places kept) (table_names schema)
   pub kinds_are : kept.columns.kinds ≡ selected_kinds (kept_places kept) (kinds_of schema.columns)
 
--- the names and the rows that are kept, as they are lent
-pub record AreKeptRows (kept : Kept) (front : FirstRows) : Type 0 where
-  pub names_are : map string_bytes front.names.now ≡ kept_names kept
-  pub columns_are : front.columns.now ≡ kept.columns
+-- no rows, in columns with these places of those that are kept
+pub record ArePickedOf (kept : Kept) (places : List ℕ) (picked : Kept) : Type 0 where
+  pub places_are : kept_places picked ≡ Some places
+  pub names_are : kept_names picked ≡ names_at places (kept_names kept)
+  pub kinds_are : picked.columns.kinds ≡ kinds_at places kept.columns.kinds
+  pub rows_are : picked.columns.rows ≡ []
 
 -- nothing is another but the rows
 pub record HasSameColumns (old new : Kept) : Type 0 where
@@ -44,3 +47,19 @@ pub record HasKept (old new : Kept) (more : List (List CellValue)) : Type 0 wher
 pub record HasReduced (old new : Kept) (numbers : List ℕ) : Type 0 where
   pub same : HasSameColumns old new
   pub rows : new.columns.rows ≡ numbered numbers old.columns.rows
+
+-- ---- columns that are shown of rows
+
+-- they are a column for each name, and have the values that the rows have there
+pub record AreShownOf (rows : List (List CellValue)) (shown : Kept) : Type 0 where
+  pub width : length shown.columns.kinds ≡ length (kept_names shown)
+  pub rows_are : shown.columns.rows ≡ selected_rows (kept_places shown) rows
+
+abbrev pub shown_places : Option Kept → Option (List ℕ)
+shown_places None = None
+shown_places (Some shown) = kept_places shown
+
+-- what is shown of rows
+abbrev pub shown_of : RowsOf → Option Kept → RowsOf
+shown_of rows None = rows
+shown_of rows (Some shown) = record { names = kept_names shown; rows = shown.columns.rows; count = rows.count }

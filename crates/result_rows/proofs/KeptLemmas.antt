@@ -1,4 +1,4 @@
--- The columns of a table that a sink keeps.
+-- Crates above may cite this file: the columns of a table that are kept.
 use Rattle.std.proofs.Common.{◌≡◌, ℕ, ◌<◌, Option, Some, None, List, [], ◌∷◌, length, map, get_or, refl, sym, ap, ◌∙◌, subst, string_bytes}
 use Rattle.std.specs.List.{All}
 use Rattle.std.specs.Prelude.{IfSome}
@@ -9,9 +9,9 @@ use Rattle.csvw_meta.specs.Schema.{SchemaOf}
 use Rattle.odata_query.specs.Query.{optional_numbers}
 use Rattle.query_meaning.specs.Meaning.{selected_names, table_names}
 use Rattle.row_columns.specs.Kinds.{any, kinds_of, KindOf}
-use Rattle.query_exec.specs.declared.kept.Kept.{Kept}
-use Rattle.query_exec.specs.Kept.{kept_names, kept_places, AreKeptOf, HasSameColumns}
-use Rattle.query_exec.specs.Picked.{selected_kinds}
+use Rattle.result_rows.specs.declared.kept.Kept.{Kept}
+use Rattle.result_rows.specs.Kept.{kept_names, kept_places, AreKeptOf, HasSameColumns}
+use Rattle.result_rows.specs.Selected.{selected_kinds}
 
 -- the names of a table's columns
 names-column_view : (columns : List Column) → map (λ (c : ColumnOf). c.name) (map column_view columns) ≡ map (λ c. string_bytes c.name) columns
@@ -37,7 +37,7 @@ still_kept old new schema same are =
       kinds_are = same.kinds ∙ are.kinds_are ∙ ap (λ ps. selected_kinds ps (kinds_of schema.columns)) picked;
     }
 
-kinds_long : (picked : Option (List ℕ)) (kinds : List KindOf) (names : List (List ℕ)) → length kinds ≡ length names
+pub kinds_long : (picked : Option (List ℕ)) (kinds : List KindOf) (names : List (List ℕ)) → length kinds ≡ length names
     → length (selected_kinds picked kinds) ≡ length (selected_names picked names)
 kinds_long None kinds names same = same
 kinds_long (Some places) kinds names same =
