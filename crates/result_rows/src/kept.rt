@@ -1,8 +1,9 @@
 //! Rows of a table that are kept.
-ghost use Rattle.std.specs.Prelude.{◌≡◌, ◌<◌, [], IfOk, IfSome, OnOk, length};
+ghost use Rattle.std.specs.Prelude.{◌≡◌, ◌<◌, [], None, IfOk, IfSome, OnOk, length};
 ghost use Rattle.std.specs.List.{All};
 ghost use Rattle.csvw_meta.specs.Schema.{schema_view};
 ghost use Rattle.odata_query.specs.Query.{optional_numbers};
+ghost use Rattle.row_columns.specs.Columns.{no_columns};
 ghost use Rattle.row_columns.specs.Picked.{numbered};
 ghost use Rattle.result_rows.specs.Kept.{kept_names, kept_places, AreKeptOf, ArePickedOf, HasKept, HasReduced};
 ghost use Rattle.result_rows.specs.Selected.{selected_rows};
@@ -25,7 +26,11 @@ pub struct Kept {
 
 impl Kept {
     /// Returns no columns, and no rows.
-    pub fn none(alloc: Global) -> Kept {
+    pub fn none(alloc: Global) -> Kept
+        ensures places { kept_places result ≡ None }
+        ensures names { kept_names result ≡ [] }
+        ensures columns { result.columns ≡ no_columns }
+    {
         Kept {
             places: None,
             names: Vec::new(alloc),
