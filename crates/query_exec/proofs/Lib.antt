@@ -14,6 +14,7 @@ pub mod AdmittedLemmas
 pub mod ReadLemmas
 pub mod OrderLemmas
 pub mod RunLemmas
+pub mod FaultLemmas
 pub mod FrontLemmas
 pub mod RunKeptLemmas
 pub mod EveryLemmas

@@ -16,6 +16,8 @@ use Rattle.query_meaning.specs.Order.{Item, ordered}
 use Rattle.query_plan.specs.Laws.{NodesInTurn}
 use Rattle.query_plan.specs.Plan.{NodeOf, SliceOf, counted, node_result, nodes_result, projecting, select_nodes, slice_view, slicing, sorting}
 use Rattle.query_plan.specs.declared.plan.Slice.{Slice}
+use Rattle.query_plan.specs.Fitting.{NodesFit}
+use Rattle.query_plan.specs.Rewrite.{chosen}
 use Rattle.sort_rows.specs.Runs.{HasInRuns, HasMoreRows}
 use Rattle.sort_rows.specs.declared.runs.SortedRuns.{SortedRuns}
 use Rattle.block_filter.specs.declared.block.Passed.{Passed}
@@ -28,6 +30,7 @@ use Rattle.query_exec.specs.declared.sink.Sink.TheVariants as sink
 use Rattle.query_exec.specs.declared.sorted.SortedSink.{SortedSink}
 use Rattle.query_exec.specs.Answer.{before_order}
 use Rattle.query_exec.specs.Sink.{first_result, shown_nodes, sorted_items, sorted_nodes, HasPushed, IsShown, KeepsShown, MayPush, PushesOn, SinkEnds}
+use Rattle.query_exec.specs.Items.{ItemsFit}
 use Rattle.query_exec.specs.Steps.{without_count}
 use Rattle.query_exec.proofs.ConditionLemmas.{selected_append}
 
@@ -44,6 +47,22 @@ has_more_rows old mid block found may kept = record {
   rows_are = kept.rows;
   has = may.pushed.runs_are;
 }
+
+-- what the items compute on the rows fits
+first_fits : (items : List Item) (most : Option ℕ) (nodes : List NodeOf) (names : List (List ℕ)) (rows : List (List CellValue))
+    → NodesFit (chosen (sorting items) most ∷ nodes) (without_count names rows) → ItemsFit items rows
+first_fits items None nodes names rows fit = fit.0.numbers
+first_fits items (Some most) nodes names rows fit = fit.0.numbers
+
+pub kept_fit : (old : SortedSink) (mid : Kept) (block : TableOf) (found : Passed) → MayPush (sink.Sorted old) block found
+    → HasKept old.kept mid (selected_rows (kept_places old.kept) (numbered found.rows block.rows)) → ItemsFit (sorted_items old) mid.columns.rows
+kept_fit old mid block found may kept =
+    let picked = kept_places old.kept in
+    let is : mid.columns.rows ≡ may.before ++ selected_rows picked may.passing =
+    kept.rows ∙ ap (λ front. front ++ selected_rows picked (numbered found.rows block.rows)) may.pushed.rows_are
+    ∙ ap (λ rs. may.before ++ selected_rows picked rs) may.are_found.first in
+    subst (ItemsFit (sorted_items old)) (sym is)
+    (first_fits (sorted_items old) old.most _ (kept_names old.kept) (may.before ++ selected_rows picked may.passing) may.fits)
 
 -- ---- the columns that are asked for
 

@@ -1,5 +1,5 @@
 -- What a run keeps of the rows that passed until its last block came.
-use Rattle.std.specs.Prelude.{◌≡◌, ℕ, List, [], ◌∷◌, Option, Some, None, length, map, min}
+use Rattle.std.specs.Prelude.{◌≡◌, ℕ, List, ◌∷◌, Option, Some, None, length, map, min}
 use Rattle.cell_types.specs.Value.{CellValue}
 use Rattle.odata_query.specs.Query.{optional_numbers}
 use Rattle.query_meaning.specs.Apply.{group_values}

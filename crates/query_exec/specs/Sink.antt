@@ -1,12 +1,14 @@
 -- What takes in the rows that pass the conditions of a plan. The law of a sink: where rows are pushed, piece by piece, what it finishes with is what its step
 -- makes of all of them.
-use Rattle.std.specs.Prelude.{◌≡◌, ◌<◌, ◌-◌, ◌^◌, ◌++◌, ⊤, ℕ, true, false, List, [], ◌∷◌, Option, Some, None, IfSome, drop, length, map, option_to_list, string_bytes}
+use Rattle.std.specs.Prelude.{◌≡◌, ◌<◌, ◌-◌, ◌^◌, ◌++◌, ⊤, Result, Ok, Err, ℕ, true, false, List, [], ◌∷◌, Option, Some, None, IfSome, drop, length, map, option_to_list, string_bytes}
 use Rattle.std.specs.Option.{unwrap_or}
 use Rattle.std.specs.List.{All}
 use Rattle.cell_types.specs.Value.{CellValue}
 use Rattle.odata_query.specs.Aggregate.{aggregates_view}
 use Rattle.odata_query.specs.Query.{optional_numbers, order_view}
 use Rattle.table_store.specs.Table.{TableOf}
+use Rattle.row_eval.specs.declared.fault.EvalFault.{EvalFault}
+use Rattle.row_eval.specs.declared.fault.EvalFault.TheVariants.{DivisionByZero, NoMemory}
 use Rattle.row_columns.specs.Picked.{numbered}
 use Rattle.sort_rows.specs.Best.{best_rows}
 use Rattle.sort_rows.specs.Cutoffs.{HasCalendarDays}
@@ -197,3 +199,10 @@ pub record SinkEnds (sink : Sink) (given : OrderedOf) : Type 0 where
   pub untaken : given.taken ≡ 0
   pub stored_is : (rows : List (List CellValue)) → HasPushed sink rows
       → nodes_result (before_order (sink_nodes sink)) (without_count (kept_names (sink_kept sink)) rows) ≡ Some given.stored
+
+-- that is what the sink finishes with, and a division by zero just where its steps divide by zero
+abbrev pub SinkFinishes : Sink → Result OrderedOf EvalFault → Type 0
+SinkFinishes sink (Ok given) = SinkEnds sink given
+SinkFinishes sink (Err DivisionByZero) =
+    (rows : List (List CellValue)) → HasPushed sink rows → nodes_result (sink_nodes sink) (without_count (kept_names (sink_kept sink)) rows) ≡ None
+SinkFinishes sink (Err NoMemory) = ⊤

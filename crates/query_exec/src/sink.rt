@@ -5,7 +5,7 @@ ghost use Rattle.query_plan.specs.Fitting.{NodesFit};
 ghost use Rattle.query_plan.specs.Plan.{node_view, select_nodes, slice_view, slicing, sorting};
 ghost use Rattle.query_plan.specs.Rewrite.{chosen};
 ghost use Rattle.result_rows.specs.Kept.{kept_names, shown_places};
-ghost use Rattle.query_exec.specs.Sink.{sink_kept, sink_nodes, spare_of, FitNames, IsShown, LendsKept, SinkEnds, HasPushed, MayFinish, MayPush, PushesOn};
+ghost use Rattle.query_exec.specs.Sink.{sink_kept, sink_nodes, spare_of, FitNames, IsShown, LendsKept, SinkFinishes, HasPushed, MayFinish, MayPush, PushesOn};
 ghost use Rattle.query_exec.specs.Steps.{without_count};
 
 use crate::aggregate::AggregateSink;
@@ -17,6 +17,7 @@ use block_filter::Passed;
 use odata_query::OrderBy;
 use query_plan::{Node, Slice};
 use result_rows::{Kept, OrderedRows};
+use row_eval::EvalFault;
 use sort_rows::SortedRuns;
 use std::alloc::{AllocError, Global};
 use table_store::Block;
@@ -107,7 +108,7 @@ impl Sink {
     }
 
     /// Returns the sink of the first `most` rows in the order of items, or of all. If the rows are put in order as they come, it does a piece of them too that
-    /// is first of `steps`, and the columns that are selected next, and takes these out. If it can do neither, it is a sink of all rows, and the order is put before `steps`.
+    /// is first of `steps`, and the columns that are selected next, and takes these out.
     fn in_order(
         alloc: Global,
         kept: Kept,
@@ -124,28 +125,23 @@ impl Sink {
         ensures kept { IfOk result (λ sink. sink_kept sink ≡ kept) }
         ensures none { IfOk result (λ sink. HasPushed sink []) }
     {
-        if most.unwrap_or(u64::MAX) > MOST_KEPT {
-            if let Some(runs) = SortedRuns::new(alloc, &items)? {
-                let slice = take_slice(steps);
-                let shown = take_shown(alloc, &kept, steps)?;
-                return Ok(Sink::Sorted(SortedSink {
-                    kept,
-                    shown,
-                    items,
-                    runs,
-                    most,
-                    slice,
-                }));
-            }
-        }
         match most {
-            Some(most) if none_can_fault(&items) => {
+            Some(most) if most <= MOST_KEPT && none_can_fault(&items) => {
                 return Ok(Sink::TopN(TopNSink::new(kept, items, most)));
             }
-            Some(most) => steps.insert(0, Node::Best(items, most))?,
-            None => steps.insert(0, Node::Sort(items))?,
+            Some(_) | None => {}
         }
-        Ok(Sink::Collect(kept))
+        let runs = SortedRuns::new(alloc, &items)?;
+        let slice = take_slice(steps);
+        let shown = take_shown(alloc, &kept, steps)?;
+        Ok(Sink::Sorted(SortedSink {
+            kept,
+            shown,
+            items,
+            runs,
+            most,
+            slice,
+        }))
     }
 
     /// Returns how many more rows it takes in by their numbers, if that is limited: of the others it takes in how many they are.
@@ -190,9 +186,9 @@ impl Sink {
     }
 
     /// Returns what its steps make of all rows that it took in.
-    pub(crate) fn finish(self, alloc: Global) -> Result<OrderedRows, AllocError>
+    pub(crate) fn finish(self, alloc: Global) -> Result<OrderedRows, EvalFault>
         requires { MayFinish self }
-        ensures { IfOk result (SinkEnds self) }
+        ensures { SinkFinishes self result }
     {
         match self {
             Sink::Collect(kept) => Ok(OrderedRows::stored(kept.into_rows(None))),

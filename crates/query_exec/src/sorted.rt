@@ -1,10 +1,10 @@
-//! A sink of all rows in the order of items that are columns.
+//! A sink of all rows in the order of items.
 ghost use Rattle.std.specs.Prelude.{◌≡◌, ◌<◌, ◌^◌, IfOk, IfSome, OnOk, length};
 ghost use Rattle.std.specs.List.{All};
 ghost use Rattle.row_columns.specs.Picked.{numbered};
 ghost use Rattle.result_rows.specs.Kept.{AreKeptOf};
 ghost use Rattle.query_exec.specs.declared.sink.Sink.TheVariants as sink;
-ghost use Rattle.query_exec.specs.Sink.{KeepsShown, LendsWhole, MayFinish, MayPush, PushesOn, SinkEnds};
+ghost use Rattle.query_exec.specs.Sink.{KeepsShown, LendsWhole, MayFinish, MayPush, PushesOn, SinkFinishes};
 
 use crate::front::{FirstRows, kept_front};
 use crate::slice::{ALL_ROWS, piece_of};
@@ -12,6 +12,7 @@ use block_filter::Passed;
 use odata_query::OrderBy;
 use query_plan::{Slice, nodes_in_turn};
 use result_rows::{Kept, OrderedRows};
+use row_eval::EvalFault;
 use row_selection::Selection;
 use sort_rows::SortedRuns;
 use std::alloc::{AllocError, Global};
@@ -94,10 +95,10 @@ impl SortedSink {
         }
     }
 
-    /// Returns the rows in order that are asked for. If all of them are, none is moved.
-    pub(crate) fn finish(self, alloc: Global) -> Result<OrderedRows, AllocError>
+    /// Returns the rows in order that are asked for. If all of them are, none is moved. A division by zero if an item divides by zero on any row.
+    pub(crate) fn finish(self, alloc: Global) -> Result<OrderedRows, EvalFault>
         requires { MayFinish (sink.Sorted self) }
-        ensures { IfOk result (SinkEnds (sink.Sorted self)) }
+        ensures { SinkFinishes (sink.Sorted self) result }
     {
         nodes_in_turn();
         let order = self.runs.finish(alloc, &self.kept.columns)?;

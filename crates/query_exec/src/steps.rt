@@ -16,6 +16,7 @@ use crate::names::aggregate_names;
 use crate::slice::piece_of;
 use aggregate_rows::gathered;
 use odata_query::{NamedAggregate, OrderBy};
+use order_columns::ItemColumns;
 use query_plan::Node;
 use result_rows::{OrderedRows, Rows, all_numbers, picked_names};
 use row_eval::EvalFault;
@@ -76,9 +77,10 @@ fn order(
         input.now.rows (numbers_from 0 (length input.now.rows)) result }
 {
     let all = all_numbers(alloc, input.len())?;
+    let columns = ItemColumns::of(input.columns());
     match most {
-        Some(most) => best_numbers(alloc, input.columns(), all, items, most),
-        None => sorted_numbers(alloc, input.columns(), all, items),
+        Some(most) => best_numbers(alloc, &columns, all, items, most),
+        None => sorted_numbers(alloc, &columns, all, items),
     }
 }
 

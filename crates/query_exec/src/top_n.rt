@@ -12,6 +12,7 @@ ghost use Rattle.query_exec.specs.TopN.{AreBestOf, AreFirst, AreTimely, HasCutRo
 
 use block_filter::{Passed, Rank, guessed_value, passing_numbers};
 use odata_query::OrderBy;
+use order_columns::ItemColumns;
 use result_rows::{Kept, Rows, all_numbers};
 use row_eval::{EvalFault, faults_are_foreseen};
 use row_selection::Selection;
@@ -135,7 +136,8 @@ impl TopNSink {
     {
         faults_are_foreseen();
         let all = all_numbers(alloc, self.kept.columns.len())?;
-        match best_numbers(alloc, &self.kept.columns, all, &self.items, self.most) {
+        let columns = ItemColumns::of(&self.kept.columns);
+        match best_numbers(alloc, &columns, all, &self.items, self.most) {
             Ok(best) => Ok(best),
             Err(EvalFault::DivisionByZero) => unreachable!(),
             Err(EvalFault::NoMemory) => Err(AllocError),

@@ -12,10 +12,10 @@ use Rattle.std.proofs.lemmas.List.Elements.{All-drop, All-from_recursion, recurs
 use Rattle.cell_types.proofs.ListLaws.{AllByRecursion-weaker}
 use Rattle.cell_types.specs.Value.{CellValue, value_cmp}
 use Rattle.sort_rows.specs.Merge.{merged}
-use Rattle.sort_rows.specs.Plain.{columns_cmp}
+use Rattle.order_columns.specs.Plain.{columns_cmp}
 use Rattle.sort_rows.specs.Runs.{first_of_two, row_at, rows_of_run, stream_first, stream_rows, AreNotFalling, FirstGoes, IsOrderedRun, IsStream, Passes}
 use Rattle.result_rows.specs.Fronts.{precedes, less_len, IsSplitAt, IsFirstPart, PassesFront}
-use Rattle.sort_rows.specs.declared.plain.PlainItem.{PlainItem}
+use Rattle.order_columns.specs.declared.plain.PlainItem.{PlainItem}
 use Rattle.sort_rows.specs.declared.run_rows.RunRow.{RunRow}
 use Rattle.sort_rows.specs.declared.streams.First.{First}
 use Rattle.sort_rows.specs.declared.streams.Stream.{Stream}

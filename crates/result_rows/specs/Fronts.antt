@@ -4,9 +4,9 @@ use Rattle.std.specs.List.{prefix_len, AllByRecursion}
 use Rattle.std.specs.Ordering.{is_lt}
 use Rattle.std.specs.declared.cmp.Ordering.{Ordering}
 use Rattle.cell_types.specs.Value.{CellValue}
-use Rattle.sort_rows.specs.Plain.{columns_cmp}
+use Rattle.order_columns.specs.Plain.{columns_cmp}
 use Rattle.sort_rows.specs.Runs.{rows_of_run, stream_rows, IsStream}
-use Rattle.sort_rows.specs.declared.plain.PlainItem.{PlainItem}
+use Rattle.order_columns.specs.declared.plain.PlainItem.{PlainItem}
 use Rattle.sort_rows.specs.declared.streams.Stream.{Stream}
 use Rattle.sort_rows.specs.declared.streams.Stream.TheVariants.{Run, Two'}
 

@@ -1,12 +1,13 @@
 //! The first rows in an order are passed over by positions (OData 4.01 URL Conventions, section 5.1.6): the rows before a pivot are a front of each run.
 ghost use Rattle.std.specs.Prelude.{◌≡◌, ◌+◌, drop, IfSome};
 ghost use Rattle.std.specs.List.{AllByRecursion};
-ghost use Rattle.sort_rows.specs.Plain.{columns_cmp};
-ghost use Rattle.sort_rows.specs.Runs.{all_sorted, left_rows, row_at, rows_of_run, AreNotFalling, AreSortedRows, IsRunRow, IsStream};
+ghost use Rattle.order_columns.specs.Plain.{columns_cmp};
+ghost use Rattle.sort_rows.specs.Runs.{all_sorted, left_rows, row_at, rows_of_run, stream_rows, AreNotFalling, AreSortedRows, IsRunRow, IsStream};
 ghost use Rattle.result_rows.specs.Fronts.{precedes, less_len, IsFirstPart, PassesFront};
 
+use order_columns::{ItemColumns, PlainItem};
 use row_columns::Columns;
-use sort_rows::{PlainItem, RunRow, SortedRows, Stream, first_of, is_less};
+use sort_rows::{RunRow, SortedRows, Stream, first_of, is_less};
 
 /// How often a pivot is sought before rows are passed over one by one.
 const TRIES: u64 = 1_024;
@@ -19,7 +20,7 @@ const COINS: u64 = 0x9e37_79b9_7f4a_7c15;
 
 /// Returns how many of the rows of a run come before a pivot: those that are less, and also those that tie with it if `ties`.
 fn front_of(
-    columns: &Columns,
+    columns: &ItemColumns<'_>,
     run: &[RunRow],
     pivot: RunRow,
     ties: bool,
@@ -52,7 +53,7 @@ fn front_of(
 /// Returns the middle one of the rows of a run that are less than `above`, if any is. The coin chooses the run.
 fn middle(
     stream: &Stream,
-    columns: &Columns,
+    columns: &ItemColumns<'_>,
     above: Option<RunRow>,
     coin: u64,
     plain: &[PlainItem],
@@ -80,7 +81,7 @@ fn middle(
 /// Returns how many of `most` rows are left after those that are less than a pivot, unless these are more.
 fn ties_left(
     stream: &Stream,
-    columns: &Columns,
+    columns: &ItemColumns<'_>,
     pivot: RunRow,
     most: usize,
     plain: &[PlainItem],
@@ -104,7 +105,7 @@ fn ties_left(
 /// Takes the rows that are less than a pivot, and of those that tie with it the first ones, at most `ties`. Returns how many of `ties` are left.
 fn pass_front(
     stream: &mut Stream,
-    columns: &Columns,
+    columns: &ItemColumns<'_>,
     pivot: RunRow,
     ties: usize,
     plain: &[PlainItem],
@@ -132,13 +133,12 @@ fn pass_front(
     }
 }
 
-/// Takes the first `count` rows that are left, or all of them. It takes no memory.
-pub fn skip_rows(order: &mut SortedRows, columns: &Columns, count: usize)
-    requires { AreSortedRows order.old columns.now.rows }
-    ensures sorted_rows { AreSortedRows order.new columns.now.rows }
-    ensures left { left_rows order.new columns.now.rows
-        ≡ drop count (left_rows order.old columns.now.rows) }
-    ensures all { all_sorted order.new columns.now.rows ≡ all_sorted order.old columns.now.rows }
+/// Takes the first `count` rows of a stream, or all of them.
+fn pass_rows(stream: &mut Stream, columns: &ItemColumns<'_>, count: usize, plain: &[PlainItem])
+    requires { IsStream plain.now columns.now.rows stream.old }
+    ensures streams { IsStream plain.now columns.now.rows stream.new }
+    ensures left { stream_rows plain.now columns.now.rows stream.new
+        ≡ drop count (stream_rows plain.now columns.now.rows stream.old) }
 {
     let mut left = count;
     let mut above = None;
@@ -147,15 +147,27 @@ pub fn skip_rows(order: &mut SortedRows, columns: &Columns, count: usize)
             break;
         }
         let coin = coin.wrapping_mul(COINS);
-        let Some(pivot) = middle(&order.stream, columns, above, coin, &order.plain) else {
+        let Some(pivot) = middle(stream, columns, above, coin, plain) else {
             continue;
         };
-        match ties_left(&order.stream, columns, pivot, left, &order.plain) {
-            Some(ties) => left = pass_front(&mut order.stream, columns, pivot, ties, &order.plain),
+        match ties_left(stream, columns, pivot, left, plain) {
+            Some(ties) => left = pass_front(stream, columns, pivot, ties, plain),
             None => above = Some(pivot),
         }
     }
     for _ in 0..left {
-        order.stream.pass(columns, &order.plain);
+        stream.pass(columns, plain);
     }
+}
+
+/// Takes the first `count` rows that are left, or all of them. It takes no memory.
+pub fn skip_rows(order: &mut SortedRows, columns: &Columns, count: usize)
+    requires { AreSortedRows order.old columns.now.rows }
+    ensures sorted_rows { AreSortedRows order.new columns.now.rows }
+    ensures left { left_rows order.new columns.now.rows
+        ≡ drop count (left_rows order.old columns.now.rows) }
+    ensures all { all_sorted order.new columns.now.rows ≡ all_sorted order.old columns.now.rows }
+{
+    let columns = ItemColumns::after(columns, &order.computed);
+    pass_rows(&mut order.stream, &columns, count, &order.plain);
 }

@@ -29,9 +29,9 @@ use Rattle.row_eval.specs.Row.{boolean_in, cell, day_in, decimal_in, integer_in,
 use Rattle.query_meaning.specs.Order.{Item, item_value}
 use Rattle.odata_query.specs.Plain.{plain_at}
 use Rattle.sort_rows.specs.Cutoffs.{first_value, is_before, is_near, may_precede, moved_to, order_between, IsComparison, IsTest, IsTestOfColumn}
-use Rattle.sort_rows.specs.Plain.{column_value, of_kind, IsPlainColumn}
+use Rattle.order_columns.specs.Plain.{column_value, of_kind, IsPlainColumn}
 use Rattle.odata_query.specs.declared.plain.PlainColumn.{PlainColumn}
-use Rattle.sort_rows.proofs.PlainLemmas.{read_there, then_in_turn, value_is}
+use Rattle.order_columns.proofs.PlainLemmas.{read_there, then_in_turn, value_is}
 
 -- ---- a column, compared with a value
 

@@ -1,13 +1,11 @@
 pub mod StableLemmas
 pub mod ItemLemmas
-pub mod RepeatLemmas
 pub mod SortingLemmas
 pub mod KeyedLemmas
 pub mod PrefixLemmas
 pub mod TextKeyLemmas
 pub mod NumberLemmas
 pub mod BestLemmas
-pub mod PlainLemmas
 pub mod KeptLemmas
 pub mod NearLemmas
 pub mod CutoffLemmas
@@ -20,3 +18,4 @@ pub mod StandLemmas
 pub mod StreamLemmas
 pub mod RunKeyLemmas
 pub mod StackLemmas
+pub mod SeenLemmas

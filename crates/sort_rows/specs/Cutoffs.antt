@@ -19,7 +19,7 @@ use Rattle.odata_query.specs.Plain.{plain_at}
 use Rattle.cell_types.specs.declared.kind.ColumnKind.TheVariants.{Number}
 use Rattle.odata_query.specs.declared.plain.PlainColumn.{PlainColumn}
 use Rattle.sort_rows.specs.Best.{best_rows}
-use Rattle.sort_rows.specs.Plain.{column_value}
+use Rattle.order_columns.specs.Plain.{column_value}
 
 -- a value is before another in a direction
 abbrev pub is_before : Bool → CellValue → CellValue → Bool

@@ -6,7 +6,6 @@ pub use Rattle.query_meaning.specs.Order
 pub mod Numbers
 pub mod Keys
 pub mod Best
-pub mod Plain
 pub mod TextKeys
 pub mod Cutoffs
 pub mod Merge

@@ -7,9 +7,9 @@ ghost use Rattle.odata_query.specs.Query.{order_view};
 ghost use Rattle.sort_rows.specs.Cutoffs.{first_place as first_place_of, first_value, is_before, is_near, may_precede, moved_to, ComparesAs, IsComparison, IsTest, IsTestOfColumn};
 ghost use Rattle.odata_query.specs.declared.plain.PlainColumn.{PlainColumn as ColumnOf};
 
-use crate::plain::{column_value, item_column};
 use cell_types::{ColumnKind, ComparisonOperator, NumberKind, Value, number_in};
 use odata_query::{OrderBy, PlainColumn};
+use order_columns::{ItemColumns, column_value, item_column};
 use row_columns::Columns;
 use std::alloc::{AllocError, Global};
 use typed_trees::{NumberExpr, TextExpr, TruthExpr};
@@ -172,7 +172,8 @@ pub fn cutoff(
     let Some(column) = item_column(&first.expression) else {
         return Ok(None);
     };
-    let bound = column_value(columns, last, column);
+    let columns = ItemColumns::of(columns);
+    let bound = column_value(&columns, last, column);
     let column = moved(column, col);
     if items.len() > 1 {
         is_not_after(alloc, column, first.descending, &bound)

@@ -1,4 +1,4 @@
-use Rattle.std.proofs.Common.{◌≡◌, ◌-◌, ap, length, rules, sym, ◌∙◌}
+use Rattle.std.proofs.Common.{◌≡◌, ap, length, sym, ◌∙◌}
 use Rattle.std.specs.Prelude.{min}
 use Rattle.std.specs.Option.{unwrap_or}
 use Rattle.query_plan.specs.Plan.{slice_view}

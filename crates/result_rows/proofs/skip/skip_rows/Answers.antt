@@ -1,19 +1,20 @@
-use Rattle.std.proofs.Common.{◌+◌, ◌-◌, arith, subst}
-use Rattle.sort_rows.specs.Runs.{left_rows, Passes}
-use Rattle.result_rows.proofs.CutLemmas.{one_left}
+use Rattle.std.proofs.Common.{◌≡◌, ◌∙◌, List, ap, drop, length, map, sym}
+use Rattle.std.proofs.lemmas.List.{drop-map}
+use Rattle.cell_types.specs.Value.{CellValue}
+use Rattle.sort_rows.specs.Runs.{stream_rows, with_values}
 use Rattle.result_rows.proofs.skip.skip_rows.Goals as goal
 
-pub loop-preserved : goal.loop-preserved
-loop-preserved c =
-    let rows = c.args.columns.now.rows in
-    let order = c.loop.order in
-    let gone = c.args.count - c.loop-coin.left + c.loop.counter in
-    let passes = subst (λ ps. Passes ps rows order.stream c.pass.new.self) c.deref-in-loop.ensures.value c.pass.ensures in
-    record {
-      streams = passes.stream;
-      plain = c.loop.invariant.plain;
-      at_most = c.loop.invariant.at_most;
-      rest =
-          one_left order.plain.items rows order.stream c.pass.new.self gone (c.args.count - c.loop-coin.left + (c.loop.counter + 1)) (left_rows c.args.order.now rows) passes
-          c.loop.invariant.rest (omega arith);
-    }
+pub pass_rows-requires : goal.pass_rows-requires
+pass_rows-requires c = rw (c.deref-2.ensures.value, c.after-columns.ensures, c.deref.ensures.value) c.requires
+
+pub returns-clause-sorted_rows : goal.returns-clause-sorted_rows
+returns-clause-sorted_rows c = rw (c.deref-2.ensures.value, c.after-columns.ensures, c.deref.ensures.value) at c.pass_rows.ensures.streams
+
+pub returns-clause-left : goal.returns-clause-left
+returns-clause-left c =
+    let order = c.args.order.now in
+    let seen = with_values order c.args.columns.now.rows in
+    let f : List CellValue → List CellValue = drop (length order.computed.items) in
+    let left : stream_rows order.plain.items seen c.pass_rows.new.stream ≡ drop c.args.count (stream_rows order.plain.items seen order.stream) =
+    rw (c.deref-2.ensures.value, c.after-columns.ensures, c.deref.ensures.value) at c.pass_rows.ensures.left in
+    ap (map f) left ∙ sym (drop-map f c.args.count (stream_rows order.plain.items seen order.stream))

@@ -6,9 +6,10 @@ use Rattle.query_plan.specs.Plan.{node_view, nodes_result}
 use Rattle.result_rows.specs.Rows.{OrderedOf, RowsOf}
 use Rattle.query_exec.specs.Steps.{GivesResult}
 use Rattle.query_exec.specs.Run.{wanted_block, IsRunAnswer}
-use Rattle.query_exec.specs.Sink.{MayFinish, SinkEnds, SinkGives}
+use Rattle.query_exec.specs.Sink.{MayFinish, SinkEnds, SinkFinishes, SinkGives}
 use Rattle.query_exec.proofs.OrderLemmas.{made_of_steps, made_unordered}
 use Rattle.query_exec.proofs.RunLemmas.{answer_made, fault_goes_on, may_finish, steps_fit}
+use Rattle.query_exec.proofs.FaultLemmas.{sink_goes_on}
 use Rattle.query_exec.proofs.run.Run.go_on.Goals as goal
 
 pub finish-requires : goal.finish-requires
@@ -17,6 +18,14 @@ finish-requires c =
     let beyond : wanted_block old ≡ None = search rules in
     let is : c.replace-sink.result ≡ old.sink = search rules in
     subst MayFinish (sym is) (may_finish old (c.requires beyond) c.if-self.false c.nodes_in_turn.ensures)
+
+pub returns-in_err-sunk : goal.returns-in_err-sunk
+returns-in_err-sunk c =
+    let old = c.args.self.now in
+    let beyond : wanted_block old ≡ None = search (rules, c.wanted.ensures, c.is_some.ensures, c.if-is_some.false, c.if-is_some.ensures) in
+    let is : c.replace-sink.result ≡ old.sink = search (rules, c.replace-sink.ensures.value) in
+    let fault = c.in_err-sunk.field-0.0 in
+    sink_goes_on old _ fault c.from_residual.result c.if-self.false c.nodes_in_turn.ensures beyond (subst (λ s. SinkFinishes s (Err fault)) is c.in_err-sunk.ensures) c.from_residual.ensures.1
 
 pub into_rows-requires : goal.into_rows-requires
 into_rows-requires c = c.in_ok-sunk.ensures.untaken

@@ -1,4 +1,4 @@
-use Rattle.std.proofs.Common.{◌≡◌, ◌||◌, Some, ap, not, subst, sym, true, ◌∙◌}
+use Rattle.std.proofs.Common.{◌≡◌, ◌||◌, Some, ap, not, rules, subst, sym, true, ◌∙◌}
 use Rattle.std.specs.Prelude.{IfSome, is_some, option_map}
 use Rattle.query_meaning.specs.Order.{ordered}
 use Rattle.query_plan.specs.Plan.{node_result, slice_view, slicing}
@@ -10,11 +10,17 @@ use Rattle.sort_rows.specs.Runs.{AreInItemOrder}
 use Rattle.query_exec.specs.declared.sink.Sink.TheVariants as sink
 use Rattle.query_exec.specs.Sink.{first_result, sorted_items, SinkEnds}
 use Rattle.query_exec.proofs.SortedLemmas.{none_is, or_true, piece_ends, shown_are, sorted_ends}
+use Rattle.query_exec.proofs.FaultLemmas.{sorted_faults}
 use Rattle.query_exec.proofs.sorted.SortedSink.finish.Goals as goal
 use Rattle.query_exec.proofs.sorted.SortedSink.finish.Goals.{else-is_none-via-then-is_none+else-is_none-2, else-is_none-via-else-is_none}
 
 pub finish-requires : goal.finish-requires
 finish-requires c = (sorted_items c.args.self, c.requires.pushed.runs_are)
+
+pub returns-in_err-order : goal.returns-in_err-order
+returns-in_err-order c =
+    let given = sorted_faults c.args.self c.in_err-order.field-0.0 c.in_err-order.ensures in
+    search (rules, given)
 
 pub in_order-rows-requires-clause-order : goal.in_order-rows-requires-clause-order
 in_order-rows-requires-clause-order c =

@@ -1,7 +1,8 @@
 use Rattle.std.proofs.Common.{map, subst, sym}
 use Rattle.odata_query.specs.Query.{order_view}
 use Rattle.sort_rows.specs.Runs.{HasInRuns, HasMoreRows}
-use Rattle.query_exec.proofs.SortedLemmas.{all_of_table, has_more_rows, sorted_pushed}
+use Rattle.query_exec.specs.Items.{ItemsFit}
+use Rattle.query_exec.proofs.SortedLemmas.{all_of_table, has_more_rows, kept_fit, sorted_pushed}
 use Rattle.query_exec.proofs.sorted.SortedSink.push.Goals as goal
 
 pub keep_shown-requires-clause-columns : goal.keep_shown-requires-clause-columns
@@ -9,10 +10,15 @@ keep_shown-requires-clause-columns c =
     let may = c.requires in
     all_of_table c.args.self.now.kept c.args.self.now.shown may.before c.args.block.now.schema may.columns may.pushed.shown_is
 
-pub push-requires : goal.push-requires
-push-requires c =
+pub push-requires-clause-more : goal.push-requires-clause-more
+push-requires-clause-more c =
     subst (λ is. HasMoreRows (map order_view is) c.args.self.now.runs c.take.new.self.columns.rows) (sym c.deref.ensures.value)
     (has_more_rows c.args.self.now c.take.new.self c.args.block.now c.args.found c.requires c.in_ok-take.ensures)
+
+pub push-requires-clause-fits : goal.push-requires-clause-fits
+push-requires-clause-fits c =
+    subst (λ is. ItemsFit (map order_view is) c.take.new.self.columns.rows) (sym c.deref.ensures.value)
+    (kept_fit c.args.self.now c.take.new.self c.args.block.now c.args.found c.requires c.in_ok-take.ensures)
 
 pub returns : goal.returns
 returns c =

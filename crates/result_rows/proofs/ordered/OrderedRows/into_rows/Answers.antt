@@ -3,7 +3,7 @@ use Rattle.std.specs.Prelude.{IfOk}
 use Rattle.std.specs.List.{All}
 use Rattle.row_columns.specs.Picked.{numbered}
 use Rattle.sort_rows.specs.Runs.{all_sorted, left_rows, AreNumbersLeft}
-use Rattle.result_rows.specs.Ordered.{ordered_view, rows_in_order, shown_rows, HasLeft}
+use Rattle.result_rows.specs.Ordered.{rows_in_order, shown_rows, HasLeft}
 use Rattle.result_rows.specs.Rows.{OrderedOf, RowsOf}
 use Rattle.result_rows.proofs.OrderedLemmas.{numbers_shown, numbers_within}
 use Rattle.result_rows.proofs.ordered.OrderedRows.into_rows.Goals as goal

@@ -1,0 +1,5 @@
+pub mod PlainLemmas
+pub mod RepeatLemmas
+pub mod ExtendedLemmas
+pub mod ItemRowLemmas
+pub mod KeepLemmas
