@@ -1,2 +1,3 @@
 pub mod ListLaws
 mod PlaceLemmas
+mod ChangeLemmas

@@ -1,5 +1,5 @@
 -- Keys in the order in which they came, each with its place among them.
-use Rattle.std.specs.Prelude.{◌≡◌, ◌<◌, ◌≤◌, ℕ, Bool, true, nat_eq, nat_le, List, [], ◌∷◌, ◌++◌, Some, length, if◌then◌else◌, refl, slice_get, slice_index_or}
+use Rattle.std.specs.Prelude.{◌≡◌, ◌<◌, ◌≤◌, ℕ, Bool, true, nat_eq, nat_le, List, [], ◌∷◌, ◌++◌, Some, length, if◌then◌else◌, refl, slice_get, slice_index_or, slice_set}
 use Rattle.std.specs.Coded.{Coded, code_by, coded×, coded_list, coded_ℕ}
 use Rattle.std.specs.Hash.{HashWrites}
 use Rattle.std.specs.Hash.FoldHasher.{finish, initial, write}
@@ -19,6 +19,21 @@ keys_of_code {K} code =
 -- the keys after one came: they stay if one of them is equal to it, and else it goes last
 abbrev pub insert_key : {K : Type 0} → (K → K → Bool) → List K → K → List K
 insert_key eq keys key = if list_any (eq key) keys then keys else keys ++ key ∷ []
+
+-- the key at a place may be changed: each that may come of it is equal to it
+pub record MayChange {K R : Type 0} (eq : K → K → Bool) (takes : K → Type 0) (returns : K → R → K → Type 0) (keys : List K) (place : ℕ) : Type 0 where
+  pub key : K
+  pub there : slice_get keys place ≡ Some key
+  pub taken : takes key
+  pub equal : (r : R) (new : K) → returns key r new → eq key new ≡ true
+
+-- the key at a place was changed
+pub record IsChanged {K R : Type 0} (returns : K → R → K → Type 0) (old new : List K) (place : ℕ) (r : R) : Type 0 where
+  pub key : K
+  pub there : slice_get old place ≡ Some key
+  pub other : K
+  pub returned : returns key r other
+  pub keys : new ≡ slice_set old place other
 
 -- the least of three numbers
 abbrev pub least_room : ℕ → ℕ → ℕ → ℕ

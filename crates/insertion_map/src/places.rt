@@ -1,7 +1,8 @@
 //! The places of keys.
 ghost use Rattle.std.specs.Prelude.{◌≡◌, ◌≤◌, ◌<◌, ◌+◌, ◌-◌, ◌++◌, ◌∷◌, [], false, IfOk, IsOk, OnErr, OnOk, is_some, length, not, position};
+ghost use Rattle.std.specs.Fn.{FnOnceReturnsAtMut, FnOnceTakesAtMut};
 ghost use Rattle.std.specs.List.{list_any};
-ghost use Rattle.insertion_map.specs.Places.{hash_value, insert_key, IsFromPlace};
+ghost use Rattle.insertion_map.specs.Places.{hash_value, insert_key, IsChanged, IsFromPlace, MayChange};
 
 use std::alloc::{AllocError, Global};
 use std::collections::HashMap;
@@ -140,6 +141,17 @@ impl<K: Eq + Hash> KeyPlaces<K> {
                 Err(AllocError)
             }
         }
+    }
+
+    /// Changes the key at `place` in what is not compared. Returns what `change` returns.
+    pub fn change_at<R, F: FnOnce(&mut K) -> R>(&mut self, place: usize, change: F) -> R
+        requires { MayChange K.eq (FnOnceTakesAtMut F.FnOnce change)
+            (FnOnceReturnsAtMut F.FnOnce change) self.old.keys place }
+        ensures changed { IsChanged (FnOnceReturnsAtMut F.FnOnce change) self.old.keys
+            self.new.keys place result }
+        ensures room { self.new.room ≡ self.old.room }
+    {
+        change(&mut self.keys[place])
     }
 
     /// Returns how many keys there are.
