@@ -5,7 +5,7 @@ use Rattle.std.specs.List.{All, AllByRecursion, AllZip, IsDistinct, list_any}
 use Rattle.std.proofs.lemmas.List.{get_or_append_left, length-append, length-map}
 use Rattle.std.proofs.lemmas.List.Elements.{All-from_recursion, filter-append, recursion_from_All}
 use Rattle.std.proofs.lemmas.List.Folds.{list_any_at}
-use Rattle.cell_types.specs.Value.{CellValue, value_view}
+use Rattle.cell_types.specs.Value.{CellValue}
 use Rattle.insertion_map.specs.Places.{insert_key}
 use Rattle.odata_query.specs.declared.aggregate.Aggregate.{Aggregate}
 use Rattle.query_meaning.specs.Apply.{group_values, rows_of_group, same_values, values_at}
@@ -13,9 +13,9 @@ use Rattle.row_columns.specs.Picked.{numbered}
 use Rattle.aggregate_rows.specs.declared.groups.Groups.{Groups}
 use Rattle.aggregate_rows.specs.Gathered.{keys_held, HasGroupMore, HasGroups, IsGroupOf}
 use Rattle.aggregate_rows.specs.Parts.{AreBegun, AreGroupsOf, ArePartsFrom, ArePartRows, HaveJoined, JoinsParts, MayJoinParts}
-use Rattle.aggregate_rows.specs.Tallies.{FitsAll}
+use Rattle.aggregate_rows.specs.Tallies.{key_of_group, FitsAll, HasResults}
 use Rattle.aggregate_rows.proofs.FitLemmas.{all_fit_kept}
-use Rattle.aggregate_rows.proofs.GatheredLemmas.{AreOneType, OfPart, views}
+use Rattle.aggregate_rows.proofs.GatheredLemmas.{AreOneType}
 use Rattle.aggregate_rows.proofs.GroupLemmas.{same_self}
 use Rattle.aggregate_rows.proofs.JoinLemmas.{is_theirs}
 use Rattle.aggregate_rows.proofs.ListLemmas.{zip_long}
@@ -45,7 +45,7 @@ zip_each P Q f (x ∷ xs) (y ∷ ys) z = (f x y z.0, zip_each P Q f xs ys z.1)
 module _ (places : List ℕ) (aggregates : List Aggregate) (some more : List (List CellValue)) (mid : Groups) (begun : AreBegun places aggregates mid some more) where
   pub have_before : HaveJoined aggregates (rows_of_group places some) (keys_held mid) mid
   have_before = subst (λ ks. HaveJoined aggregates (rows_of_group places some) ks mid) (sym begun.keys_are)
-      (zip_apart (OfPart aggregates) (rows_of_group places some) (group_values places (some ++ more)) mid.accumulators.items begun.accumulators_are)
+      (zip_apart (HasResults aggregates) (rows_of_group places some) (group_values places (some ++ more)) mid.rows.keys begun.results_are)
 
   in_two : (key : List CellValue) → rows_of_group places (some ++ more) key ≡ rows_of_group places some key ++ rows_of_group places more key
   in_two key = filter-append (λ r. same_values key (values_at places r)) some more
@@ -56,14 +56,14 @@ module _ (places : List ℕ) (aggregates : List Aggregate) (some more : List (Li
       (λ k d h. let key = get_or (keys_held mid) k d in
       subst (λ rs. AllByRecursion (FitsAll width rs) aggregates) (in_two key) (all_fit_kept width (λ r. same_values key (values_at places r)) (some ++ more) aggregates fits))
 
-  pub parts_whole : (new : Groups) → new.keys.keys ≡ mid.keys.keys → HaveJoined aggregates (λ key. rows_of_group places some key ++ rows_of_group places more key) (keys_held mid) new
+  pub parts_whole : (new : Groups) → keys_held new ≡ keys_held mid → HaveJoined aggregates (λ key. rows_of_group places some key ++ rows_of_group places more key) (keys_held mid) new
       → HasGroups (Some places) aggregates new (some ++ more)
   parts_whole new same have = record {
-    keys_are = ap views same ∙ begun.keys_are;
-    accumulators_are = zip_mapped (OfPart aggregates) (rows_of_group places (some ++ more)) (group_values places (some ++ more)) new.accumulators.items
-        (zip_each (λ key accumulators. OfPart aggregates (rows_of_group places some key ++ rows_of_group places more key) accumulators)
-        (λ key accumulators. OfPart aggregates (rows_of_group places (some ++ more) key) accumulators)
-        (λ key accumulators is. subst (λ rs. OfPart aggregates rs accumulators) (sym (in_two key)) is) (group_values places (some ++ more)) new.accumulators.items
+    keys_are = same ∙ begun.keys_are;
+    results_are = zip_mapped (HasResults aggregates) (rows_of_group places (some ++ more)) (group_values places (some ++ more)) new.rows.keys
+        (zip_each (λ key group. HasResults aggregates (rows_of_group places some key ++ rows_of_group places more key) group)
+        (λ key group. HasResults aggregates (rows_of_group places (some ++ more) key) group)
+        (λ key group is. subst (λ rs. HasResults aggregates rs group) (sym (in_two key)) is) (group_values places (some ++ more)) new.rows.keys
         (subst (λ ks. HaveJoined aggregates (λ key. rows_of_group places some key ++ rows_of_group places more key) ks new) begun.keys_are have));
   }
 
@@ -111,22 +111,22 @@ pub as_many_found : (groups : Groups) (places : List ℕ) (rows : List (List Cel
 as_many_found groups places rows numbers found are =
     sym (length-map numbers (λ n. get_or rows n [])) ∙ zip_long (λ row group. IsGroupOf groups (values_at places row) group) (numbered numbers rows) found are
 
-pub all_inside : (groups : Groups) (places : List ℕ) (rows : List (List CellValue)) (found : List ℕ) → AreGroupsOf groups places rows found → All (λ g. g < length groups.keys.keys) found
-all_inside groups places rows found are = All-from_recursion (λ (g : ℕ). g < length groups.keys.keys) found (each rows found are)
+pub all_inside : (groups : Groups) (places : List ℕ) (rows : List (List CellValue)) (found : List ℕ) → AreGroupsOf groups places rows found → All (λ g. g < length groups.rows.keys) found
+all_inside groups places rows found are = All-from_recursion (λ (g : ℕ). g < length groups.rows.keys) found (each rows found are)
   where
-    each : (rs : List (List CellValue)) (gs : List ℕ) → AreGroupsOf groups places rs gs → AllByRecursion (λ (g : ℕ). g < length groups.keys.keys) gs
+    each : (rs : List (List CellValue)) (gs : List ℕ) → AreGroupsOf groups places rs gs → AllByRecursion (λ (g : ℕ). g < length groups.rows.keys) gs
     each [] [] z = tt
     each [] (g ∷ gs) z = absurd z
     each (r ∷ rs) [] z = absurd z
-    each (r ∷ rs) (g ∷ gs) z = (let less = z.0.0 in omega (arith, length-map groups.keys.keys (λ key. map value_view key.items)), each rs gs z.1)
+    each (r ∷ rs) (g ∷ gs) z = (let less = z.0.0 in omega (arith, length-map groups.rows.keys key_of_group), each rs gs z.1)
 
 module _ (equal : AreOneType) (places : List ℕ) (aggregates : List Aggregate) (some rows : List (List CellValue)) (numbers : List ℕ) (mid : Groups)
     (begun : AreBegun places aggregates mid some (numbered numbers rows)) (distinct : IsDistinct same_values (group_values places (some ++ numbered numbers rows)))
-    (found : List ℕ) (are : AreGroupsOf mid places (numbered numbers rows) found) (parts : List (Vec ℕ Global)) (long : length parts ≡ length mid.keys.keys)
+    (found : List ℕ) (are : AreGroupsOf mid places (numbered numbers rows) found) (parts : List (Vec ℕ Global)) (long : length parts ≡ length mid.rows.keys)
     (from : ArePartsFrom 0 numbers found parts) where
   parts_are : ArePartRows rows (rows_of_group places (numbered numbers rows)) (keys_held mid) parts
   parts_are = part_rows equal places mid (subst (IsDistinct same_values) (sym begun.keys_are) distinct) rows 0 numbers found (numbered numbers rows) (keys_held mid) parts refl are
-      (long ∙ sym (length-map mid.keys.keys (λ key. map value_view key.items)))
+      (long ∙ sym (length-map mid.rows.keys key_of_group))
       (λ j g e less. let same : g ≡ j = omega (arith, e) in (omega (arith, e, less), ap (λ i. get_or (keys_held mid) i []) same)) from
 
   pub may_join_parts : (width : ℕ) → AllByRecursion (FitsAll width (some ++ numbered numbers rows)) aggregates → MayJoinParts aggregates width mid rows parts
@@ -139,6 +139,6 @@ module _ (equal : AreOneType) (places : List ℕ) (aggregates : List Aggregate) 
     fits = parts_fit places aggregates some (numbered numbers rows) mid begun width fits;
   }
 
-  pub parts_joined : (new : Groups) → new.keys.keys ≡ mid.keys.keys → JoinsParts aggregates mid new rows parts → HasGroups (Some places) aggregates new (some ++ numbered numbers rows)
+  pub parts_joined : (new : Groups) → keys_held new ≡ keys_held mid → JoinsParts aggregates mid new rows parts → HasGroups (Some places) aggregates new (some ++ numbered numbers rows)
   parts_joined new same joins = parts_whole places aggregates some (numbered numbers rows) mid begun new same
       (joins (keys_held mid) (rows_of_group places some) (rows_of_group places (numbered numbers rows)) (have_before places aggregates some (numbered numbers rows) mid begun) parts_are)

@@ -5,8 +5,7 @@ use Rattle.std.specs.List.{AllByRecursion}
 use Rattle.std.proofs.lemmas.List.{get_or-map, length-append, length-map, map-append, take_more, take-append-drop}
 use Rattle.std.proofs.lemmas.List.Elements.{All-map}
 use Rattle.cell_types.proofs.ListLaws.{AllByRecursion-filter}
-use Rattle.cell_types.specs.Value.{CellValue, value_eq, value_view}
-use Rattle.cell_types.specs.declared.value.Value.{Value}
+use Rattle.cell_types.specs.Value.{CellValue, value_eq}
 use Rattle.odata_query.specs.declared.aggregate.Aggregate.{Aggregate}
 use Rattle.odata_query.specs.Aggregate.{NamedAggregateOf}
 use Rattle.odata_query.specs.FirstSeen.{first_seen}
@@ -15,22 +14,14 @@ use Rattle.query_meaning.specs.Apply.{computed_value, computed_values, group_val
 use Rattle.row_columns.specs.Picked.{numbered}
 use Rattle.aggregate_rows.specs.declared.aggregator.Aggregator.{Aggregator}
 use Rattle.aggregate_rows.specs.declared.groups.Groups.{Groups}
-use Rattle.aggregate_rows.specs.declared.accumulator.Accumulator.{Accumulator}
+use Rattle.aggregate_rows.specs.declared.group_row.GroupRow.{GroupRow}
 use Rattle.aggregate_rows.specs.Gathered.{gathered_rows, key_width, plain_aggregates, group_keys, part_of, rows_gathered, Adjoins, HasGroups, JoinsGroups, MayJoin, MayJoinGroups}
-use Rattle.aggregate_rows.specs.Tallies.{AreAccumulators, FitsAll}
+use Rattle.aggregate_rows.specs.Tallies.{key_of_group, FitsAll, HasResults}
 use Rattle.aggregate_rows.proofs.FitLemmas.{all_fit_front}
 use Rattle.aggregate_rows.proofs.GroupLemmas.{joins}
-use Rattle.aggregate_rows.proofs.ListLemmas.{zip_at, zip_long}
+use Rattle.row_codes.proofs.ListLaws.{zip_at}
 use Rattle.aggregate_rows.proofs.OnceLemmas.{true_of_each}
 use Rattle.aggregate_rows.proofs.ValueLemmas.{values_append}
-
--- the accumulators of a group
-abbrev pub OfPart : List Aggregate → List (List CellValue) → Vec Accumulator Global → Type 0
-OfPart aggregates part accumulators = AreAccumulators aggregates part accumulators.items
-
--- the values of keys
-abbrev pub views : List (Vec Value Global) → List (List CellValue)
-views keys = map (λ key. map value_view key.items) keys
 
 abbrev pub AreOneType : Type 0
 AreOneType = (a b : CellValue) → IsTrue (value_eq a b) ↔ (a ≡ b)
@@ -98,29 +89,21 @@ pub plain_rows : (places : Option (List ℕ)) (aggregates : List NamedAggregateO
 plain_rows None aggregates rows = ap (λ r. r ∷ []) (computed_plain aggregates rows)
 plain_rows (Some places) aggregates rows = each_row aggregates (rows_of_group places rows) (group_values places rows)
 
--- as many accumulators as keys
+-- as many groups as keys
 module _ (places : Option (List ℕ)) (aggregates : List Aggregate) (groups : Groups) (rows : List (List CellValue)) (has : HasGroups places aggregates groups rows) where
-  pub as_many : length groups.accumulators.items ≡ length (group_keys places rows)
-  as_many =
-      sym (zip_long (OfPart aggregates) (map (part_of places rows) (group_keys places rows)) groups.accumulators.items has.accumulators_are)
-      ∙ length-map (group_keys places rows) (part_of places rows)
+  pub as_many : length groups.rows.keys ≡ length (group_keys places rows)
+  as_many = sym (length-map groups.rows.keys key_of_group) ∙ ap length has.keys_are
 
-  pub as_many_keys : length groups.accumulators.items ≡ length groups.keys.keys
-  as_many_keys = as_many ∙ sym (ap length has.keys_are) ∙ length-map groups.keys.keys (λ key. map value_view key.items)
-
-  pub accumulators_at : (i : ℕ) (d : Vec Accumulator Global) → i < length groups.accumulators.items
-      → AreAccumulators aggregates (part_of places rows (get_or (group_keys places rows) i [])) (get_or groups.accumulators.items i d).items
-  accumulators_at i d h =
+  pub results_at : (i : ℕ) (d : GroupRow) → i < length groups.rows.keys → HasResults aggregates (part_of places rows (get_or (group_keys places rows) i [])) (get_or groups.rows.keys i d)
+  results_at i d h =
       let many = as_many in
-      subst (λ p. OfPart aggregates p (get_or groups.accumulators.items i d)) (get_or-map (part_of places rows) (group_keys places rows) i [] [] (omega arith))
-      (zip_at (OfPart aggregates) (map (part_of places rows) (group_keys places rows)) groups.accumulators.items i [] d has.accumulators_are h)
+      subst (λ p. HasResults aggregates p (get_or groups.rows.keys i d)) (get_or-map (part_of places rows) (group_keys places rows) i [] [] (omega arith))
+      (zip_at (HasResults aggregates) (map (part_of places rows) (group_keys places rows)) groups.rows.keys i [] d has.results_are h)
 
-  pub key_at : (i : ℕ) (d : Vec Value Global) → i < length groups.accumulators.items → map value_view (get_or groups.keys.keys i d).items ≡ get_or (group_keys places rows) i []
-  key_at i d h =
-      let many = as_many_keys in
-      sym (get_or-map (λ key. map value_view key.items) groups.keys.keys i d [] (omega arith)) ∙ ap (λ ks. get_or ks i []) has.keys_are
+  pub key_at : (i : ℕ) (d : GroupRow) → i < length groups.rows.keys → key_of_group (get_or groups.rows.keys i d) ≡ get_or (group_keys places rows) i []
+  key_at i d h = sym (get_or-map key_of_group groups.rows.keys i d [] h) ∙ ap (λ ks. get_or ks i []) has.keys_are
 
-  pub row_more : (shown : List Aggregate) (i : ℕ) (row : List CellValue) → i < length groups.accumulators.items
+  pub row_more : (shown : List Aggregate) (i : ℕ) (row : List CellValue) → i < length groups.rows.keys
       → row ≡ get_or (group_keys places rows) i [] ++ map (computed_value (part_of places rows (get_or (group_keys places rows) i []))) shown
       → take (i + 1) (rows_gathered places shown rows) ≡ take i (rows_gathered places shown rows) ++ row ∷ []
   row_more shown i row h is =

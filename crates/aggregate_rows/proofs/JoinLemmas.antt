@@ -1,27 +1,64 @@
 -- A row joins the group of its values, which may be a new one.
-use Rattle.std.proofs.Common.{◌≡◌, ℕ, ◌<◌, true, false, cond, Some, List, [], ◌∷◌, ◌++◌, Vec, Global, length, map, get_or, position, inl, inr, refl, sym, ap, subst, ◌∙◌, append_assoc, arith}
-use Rattle.std.specs.Prelude.{slice_set}
+use Rattle.std.proofs.Common.{◌≡◌, ℕ, zero, suc, ◌<◌, true, false, cond, Some, None, List, [], ◌∷◌, ◌++◌, length, map, get_or, position, inl, inr, refl, sym, ap, subst, ◌∙◌, append_assoc, arith}
+use Rattle.std.specs.Prelude.{slice_get, slice_set}
 use Rattle.std.specs.List.{AllByRecursion, AllZip, IsDistinct, list_any}
 use Rattle.std.proofs.lemmas.List.{append-nil, get_or_push, get_or-map, length_push, length-map, map-append}
 use Rattle.std.proofs.lemmas.List.Elements.{filter-append}
 use Rattle.std.proofs.lemmas.List.Folds.{list_any_at}
 use Rattle.std.proofs.lemmas.List.Quantifiers.{position-Some}
 use Rattle.std.proofs.lemmas.Bool.{cases_Bool, false≢true}
+use Rattle.std.proofs.lemmas.Option.{get_or_from_slice_get, same_Some}
 use Rattle.std.proofs.lemmas.Slice.Zip.{all_zipped_more, AllZip-long}
-use Rattle.cell_types.specs.Value.{CellValue, value_view}
-use Rattle.cell_types.specs.declared.value.Value.{Value}
+use Rattle.cell_types.specs.Value.{CellValue}
 use Rattle.odata_query.specs.declared.aggregate.Aggregate.{Aggregate}
 use Rattle.query_meaning.specs.Apply.{group_values, rows_of_group, same_values, values_at}
 use Rattle.aggregate_rows.specs.declared.groups.Groups.{Groups}
-use Rattle.aggregate_rows.specs.declared.accumulator.Accumulator.{Accumulator}
+use Rattle.aggregate_rows.specs.declared.group_row.GroupRow.{GroupRow}
 use Rattle.insertion_map.specs.Places.{insert_key}
-use Rattle.aggregate_rows.specs.Gathered.{keys_held, HasGroupMore, HasGroups, IsGroupOf}
+use Rattle.aggregate_rows.specs.Gathered.{keys_held, HasGroupMore, HasGroups, IsGroupOf, JoinsGroup, MayJoinGroup}
 use Rattle.aggregate_rows.specs.Parts.{AreBegun}
-use Rattle.aggregate_rows.specs.Tallies.{AreAccumulators, FitsAll, MayTallyEach, TalliesEach}
+use Rattle.aggregate_rows.specs.Tallies.{key_of_group, FitsAll, HasResults, TalliesEach}
 use Rattle.aggregate_rows.proofs.FitLemmas.{all_fit_kept}
 use Rattle.aggregate_rows.proofs.GroupLemmas.{found_zip, joins, more_values, no_rows, same_is, same_self}
-use Rattle.aggregate_rows.proofs.ListLemmas.{zip_at}
-use Rattle.aggregate_rows.proofs.GatheredLemmas.{AreOneType, OfPart, views}
+use Rattle.row_codes.proofs.ListLaws.{zip_at}
+use Rattle.aggregate_rows.proofs.GatheredLemmas.{AreOneType}
+
+-- the keys stay where a group becomes another of the same key
+keys_stay : (groups : List GroupRow) (g : ℕ) (group made : GroupRow) → group ≡ get_or groups g group → key_of_group made ≡ key_of_group group → map key_of_group (slice_set groups g made) ≡ map key_of_group groups
+keys_stay [] g group made there same = refl
+keys_stay (x ∷ xs) zero group made there same = ap (λ k. k ∷ map key_of_group xs) (same ∙ ap key_of_group there)
+keys_stay (x ∷ xs) (suc g) group made there same = ap (λ ks. key_of_group x ∷ ks) (keys_stay xs g group made there same)
+
+pub keys_same : (aggregates : List Aggregate) (old new : Groups) (place : ℕ) (more : List (List CellValue)) → JoinsGroup aggregates old new place more → keys_held new ≡ keys_held old
+keys_same aggregates old new place more joins =
+    ap (map key_of_group) joins.rows ∙ keys_stay old.rows.keys place joins.group joins.made (sym (get_or_from_slice_get old.rows.keys place joins.group joins.group joins.there)) joins.key
+
+pub group_at : (groups : List GroupRow) (g : ℕ) → g < length groups → (group : GroupRow) × (slice_get groups g ≡ Some group) × (group ≡ get_or groups g group)
+group_at [] g h = absurd (omega arith)
+group_at (group ∷ groups) zero h = (group, refl, refl)
+group_at (group ∷ groups) (suc g) h = group_at groups g (omega arith)
+
+-- ---- all rows as one group
+module _ (aggregates : List Aggregate) (rows more : List (List CellValue)) where
+  one_group : (keys : List GroupRow) → AllZip (HasResults aggregates) (rows ∷ []) keys → (group : GroupRow) × (slice_get keys 0 ≡ Some group) × HasResults aggregates rows group
+  one_group [] z = absurd z
+  one_group (group ∷ keys) z = (group, refl, z.0)
+
+  pub whole_may_join : (groups : Groups) (width : ℕ) → HasGroups None aggregates groups rows → AllByRecursion (FitsAll width (rows ++ more)) aggregates → MayJoinGroup aggregates groups 0 width more
+  whole_may_join groups width has fits =
+      let one = one_group groups.rows.keys has.results_are in
+      record { group = one.0; there = one.1; may = record { rows = rows; has = one.2; fits = fits } }
+
+  one_joined : (keys : List GroupRow) (group made : GroupRow) → slice_get keys 0 ≡ Some group → TalliesEach aggregates group made more → AllZip (HasResults aggregates) (rows ∷ []) keys
+      → AllZip (HasResults aggregates) ((rows ++ more) ∷ []) (slice_set keys 0 made)
+  one_joined [] group made there joins z = absurd z
+  one_joined (g ∷ keys) group made there joins z = (joins rows (subst (HasResults aggregates rows) (same_Some g group there) z.0), z.1)
+
+  pub whole_joined : (old new : Groups) → HasGroups None aggregates old rows → JoinsGroup aggregates old new 0 more → HasGroups None aggregates new (rows ++ more)
+  whole_joined old new has joined = record {
+    keys_are = keys_same aggregates old new 0 more joined ∙ has.keys_are;
+    results_are = subst (AllZip (HasResults aggregates) ((rows ++ more) ∷ [])) (sym joined.rows) (one_joined old.rows.keys joined.group joined.made joined.there joined.joins has.results_are);
+  }
 
 front_none : {X : Type 0} (xs ys : List X) → xs ++ ys ≡ [] → xs ≡ []
 front_none [] ys e = refl
@@ -31,7 +68,7 @@ module _ (equal : AreOneType) (places : List ℕ) (aggregates : List Aggregate) 
   pub none_more : (groups : Groups) → HasGroups (Some places) aggregates groups some → AreBegun places aggregates groups some []
   none_more groups has = record {
     keys_are = has.keys_are ∙ ap (group_values places) (sym (append-nil some));
-    accumulators_are = subst (λ rs. AllZip (OfPart aggregates) (map (rows_of_group places some) (group_values places rs)) groups.accumulators.items) (sym (append-nil some)) has.accumulators_are;
+    results_are = subst (λ rs. AllZip (HasResults aggregates) (map (rows_of_group places some) (group_values places rs)) groups.rows.keys) (sym (append-nil some)) has.results_are;
   }
 
   -- one row more comes, with the group of its values
@@ -57,16 +94,16 @@ module _ (equal : AreOneType) (places : List ℕ) (aggregates : List Aggregate) 
     pub begun_more : AreBegun places aggregates after some (more ++ row ∷ [])
     begun_more = record {
       keys_are = has.keys ∙ ap (λ ks. insert_key same_values ks (values_at places row)) begun.keys_are ∙ sym came;
-      accumulators_are = elim (cases_Bool (list_any (same_values (values_at places row)) (keys_held old))) [
-        | inl there ↦ subst (λ ts. AllZip (OfPart aggregates) (map (rows_of_group places some) (group_values places (some ++ (more ++ row ∷ [])))) ts) (sym (has.stay there))
-            (subst (λ ks. AllZip (OfPart aggregates) (map (rows_of_group places some) ks) old.accumulators.items) (sym (among there)) begun.accumulators_are)
+      results_are = elim (cases_Bool (list_any (same_values (values_at places row)) (keys_held old))) [
+        | inl there ↦ subst (λ ts. AllZip (HasResults aggregates) (map (rows_of_group places some) (group_values places (some ++ (more ++ row ∷ [])))) ts) (sym (has.stay there))
+            (subst (λ ks. AllZip (HasResults aggregates) (map (rows_of_group places some) ks) old.rows.keys) (sym (among there)) begun.results_are)
         | inr none ↦ (let made = has.begins none in
-            subst (λ ts. AllZip (OfPart aggregates) (map (rows_of_group places some) (group_values places (some ++ (more ++ row ∷ [])))) ts) (sym made.2)
-            (subst (λ ks. AllZip (OfPart aggregates) (map (rows_of_group places some) ks) (old.accumulators.items ++ made.0 ∷ [])) (sym (new none))
-            (subst (λ ps. AllZip (OfPart aggregates) ps (old.accumulators.items ++ made.0 ∷ []))
+            subst (λ ts. AllZip (HasResults aggregates) (map (rows_of_group places some) (group_values places (some ++ (more ++ row ∷ [])))) ts) (sym made.2)
+            (subst (λ ks. AllZip (HasResults aggregates) (map (rows_of_group places some) ks) (old.rows.keys ++ made.0 ∷ [])) (sym (new none))
+            (subst (λ ps. AllZip (HasResults aggregates) ps (old.rows.keys ++ made.0 ∷ []))
             (sym (map-append (rows_of_group places some) (group_values places (some ++ more)) (values_at places row ∷ [])))
-            (all_zipped_more (OfPart aggregates) (map (rows_of_group places some) (group_values places (some ++ more))) old.accumulators.items (rows_of_group places some (values_at places row)) made.0
-            begun.accumulators_are (subst (λ part. OfPart aggregates part made.0) (sym (empty none)) made.1)))))
+            (all_zipped_more (HasResults aggregates) (map (rows_of_group places some) (group_values places (some ++ more))) old.rows.keys (rows_of_group places some (values_at places row)) made.0
+            begun.results_are (subst (λ part. HasResults aggregates part made.0) (sym (empty none)) made.1)))))
       ];
     }
 
@@ -79,39 +116,45 @@ module _ (equal : AreOneType) (places : List ℕ) (aggregates : List Aggregate) 
     at : (g < length (group_values places (some ++ row ∷ []))) × (get_or (group_values places (some ++ row ∷ [])) g [] ≡ values_at places row)
     at = (subst (λ ks. g < length ks) begun.keys_are its.0, subst (λ ks. get_or ks g [] ≡ values_at places row) begun.keys_are (its.1 ∙ is))
 
-    pub inside : g < length mid.accumulators.items
+    inside : g < length mid.rows.keys
     inside =
-        let long = AllZip-long (OfPart aggregates) (map (rows_of_group places some) (group_values places (some ++ row ∷ []))) mid.accumulators.items begun.accumulators_are in
+        let long = AllZip-long (HasResults aggregates) (map (rows_of_group places some) (group_values places (some ++ row ∷ []))) mid.rows.keys begun.results_are in
         let count = length-map (group_values places (some ++ row ∷ [])) (rows_of_group places some) in
         let here = at.0 in
         omega arith
 
-    module _ (accumulators : Vec Accumulator Global) (there : accumulators ≡ get_or mid.accumulators.items g accumulators) where
-      accumulators_there : AreAccumulators aggregates (rows_of_group places some (values_at places row)) accumulators.items
-      accumulators_there =
-          let part = get_or-map (rows_of_group places some) (group_values places (some ++ row ∷ [])) g [] [] at.0 in
-          let own = zip_at (OfPart aggregates) (map (rows_of_group places some) (group_values places (some ++ row ∷ []))) mid.accumulators.items g [] accumulators begun.accumulators_are inside in
-          subst (λ (ts : Vec Accumulator Global). AreAccumulators aggregates (rows_of_group places some (values_at places row)) ts.items) (sym there)
-          (subst (λ p. OfPart aggregates p (get_or mid.accumulators.items g accumulators)) (part ∙ ap (rows_of_group places some) at.1) own)
+    its_results : (group : GroupRow) → group ≡ get_or mid.rows.keys g group → HasResults aggregates (rows_of_group places some (values_at places row)) group
+    its_results group there =
+        let part = get_or-map (rows_of_group places some) (group_values places (some ++ row ∷ [])) g [] [] at.0 in
+        let own = zip_at (HasResults aggregates) (map (rows_of_group places some) (group_values places (some ++ row ∷ []))) mid.rows.keys g [] group begun.results_are inside in
+        subst (HasResults aggregates (rows_of_group places some (values_at places row))) (sym there)
+        (subst (λ p. HasResults aggregates p (get_or mid.rows.keys g group)) (part ∙ ap (rows_of_group places some) at.1) own)
 
-      pub may_join : (width : ℕ) → AllByRecursion (FitsAll width (some ++ row ∷ [])) aggregates → MayTallyEach aggregates width accumulators.items (row ∷ [])
-      may_join width fits = record {
-        rows = rows_of_group places some (values_at places row);
-        accumulators = accumulators_there;
-        fits = subst (λ rs. AllByRecursion (FitsAll width rs) aggregates) (joins equal places some row (values_at places row) (same_self equal places (values_at places row)))
-            (all_fit_kept width (λ r. same_values (values_at places row) (values_at places r)) (some ++ row ∷ []) aggregates fits);
-      }
+    pub may_join : (width : ℕ) → AllByRecursion (FitsAll width (some ++ row ∷ [])) aggregates → MayJoinGroup aggregates mid g width (row ∷ [])
+    may_join width fits =
+        let here = group_at mid.rows.keys g inside in
+        record {
+          group = here.0;
+          there = here.1;
+          may = record {
+            rows = rows_of_group places some (values_at places row);
+            has = its_results here.0 here.2;
+            fits = subst (λ rs. AllByRecursion (FitsAll width rs) aggregates) (joins equal places some row (values_at places row) (same_self equal places (values_at places row)))
+                (all_fit_kept width (λ r. same_values (values_at places row) (values_at places r)) (some ++ row ∷ []) aggregates fits);
+          };
+        }
 
-      pub row_joined : (new : Groups) (made : Vec Accumulator Global) (next : List (List CellValue)) → next ≡ some ++ row ∷ [] → IsDistinct same_values (group_values places (some ++ row ∷ []))
-          → TalliesEach aggregates accumulators.items made.items (row ∷ []) → new.keys.keys ≡ mid.keys.keys → new.accumulators.items ≡ slice_set mid.accumulators.items g made
-          → HasGroups (Some places) aggregates new next
-      row_joined new made next same distinct joined keys put = subst (HasGroups (Some places) aggregates new) (sym same) (record {
-        keys_are = ap views keys ∙ begun.keys_are;
-        accumulators_are =
-            subst (λ ts. AllZip (OfPart aggregates) (map (rows_of_group places (some ++ row ∷ [])) (group_values places (some ++ row ∷ []))) ts) (sym put)
-            (found_zip equal places some row (OfPart aggregates) (group_values places (some ++ row ∷ [])) mid.accumulators.items g made begun.accumulators_are distinct at.0 at.1
-            (joined (rows_of_group places some (values_at places row)) accumulators_there));
-      })
+    pub row_joined : (new : Groups) (next : List (List CellValue)) → next ≡ some ++ row ∷ [] → IsDistinct same_values (group_values places (some ++ row ∷ [])) → JoinsGroup aggregates mid new g (row ∷ [])
+        → HasGroups (Some places) aggregates new next
+    row_joined new next same distinct joined =
+        let there = sym (get_or_from_slice_get mid.rows.keys g joined.group joined.group joined.there) in
+        subst (HasGroups (Some places) aggregates new) (sym same) (record {
+          keys_are = keys_same aggregates mid new g (row ∷ []) joined ∙ begun.keys_are;
+          results_are =
+              subst (λ ts. AllZip (HasResults aggregates) (map (rows_of_group places (some ++ row ∷ [])) (group_values places (some ++ row ∷ []))) ts) (sym joined.rows)
+              (found_zip equal places some row (HasResults aggregates) (group_values places (some ++ row ∷ [])) mid.rows.keys g joined.made begun.results_are distinct at.0 at.1
+              (joined.joins (rows_of_group places some (values_at places row)) (its_results joined.group there)));
+        })
 
 -- a key that is one of theirs
 pub is_theirs : (aggregates : List Aggregate) (groups : Groups) (key : List CellValue) → list_any (same_values key) (keys_held groups) ≡ true → HasGroupMore aggregates groups groups key
@@ -131,20 +174,19 @@ found_place equal groups key g found =
     (there.0, sym (same_is equal [] key (get_or (keys_held groups) g []) there.1))
 
 -- or put after the others
-module _ (old new : Groups) (key : Vec Value Global) (values : List CellValue) (is : map value_view key.items ≡ values) (keys : new.keys.keys ≡ old.keys.keys ++ key ∷ []) where
+module _ (old new : Groups) (made : GroupRow) (values : List CellValue) (is : key_of_group made ≡ values) (put : new.rows.keys ≡ old.rows.keys ++ made ∷ []) where
   keys_then : keys_held new ≡ keys_held old ++ values ∷ []
-  keys_then = ap views keys ∙ map-append (λ k. map value_view k.items) old.keys.keys (key ∷ []) ∙ ap (λ k. keys_held old ++ k ∷ []) is
+  keys_then = ap (map key_of_group) put ∙ map-append key_of_group old.rows.keys (made ∷ []) ∙ ap (λ k. keys_held old ++ k ∷ []) is
 
-  pub key_new : (aggregates : List Aggregate) (made : Vec Accumulator Global) → list_any (same_values values) (keys_held old) ≡ false → AreAccumulators aggregates [] made.items
-      → new.accumulators.items ≡ old.accumulators.items ++ made ∷ [] → HasGroupMore aggregates old new values
-  key_new aggregates made lacks accumulators put = record {
+  pub key_new : (aggregates : List Aggregate) → list_any (same_values values) (keys_held old) ≡ false → HasResults aggregates [] made → HasGroupMore aggregates old new values
+  key_new aggregates lacks results = record {
     keys = keys_then ∙ sym (ap (λ b. cond b (keys_held old) (keys_held old ++ values ∷ [])) lacks);
     stay = λ among. absurd (false≢true (sym lacks ∙ among));
-    begins = λ _. (made, accumulators, put);
+    begins = λ _. (made, results, put);
   }
 
-  pub new_place : (g : ℕ) → g ≡ length old.keys.keys → IsGroupOf new values g
+  pub new_place : (g : ℕ) → g ≡ length old.rows.keys → IsGroupOf new values g
   new_place g here =
-      let many = length-map old.keys.keys (λ k. map value_view k.items) in
+      let many = length-map old.rows.keys key_of_group in
       subst (λ ks. (g < length ks) × (get_or ks g [] ≡ values)) (sym keys_then)
       (omega (arith, here, many, length_push (keys_held old) values), get_or_push (keys_held old) values [] g (many ∙ sym here))

@@ -15,7 +15,9 @@ use Rattle.cell_types.specs.Value.{CellValue, null}
 use Rattle.query_meaning.specs.Apply.{integer_sum, value_at}
 use Rattle.row_columns.specs.Picked.{numbered}
 use Rattle.row_eval.specs.Row.{cell, number_in}
-use Rattle.aggregate_rows.specs.Sums.{numbers_at, numbers_in, sum_of, IsKeptAs}
+use Rattle.row_codes.specs.Kept.{IsKeptAs}
+use Rattle.row_codes.proofs.KeptLaws.{cell_is, value_here}
+use Rattle.aggregate_rows.specs.Sums.{numbers_at, numbers_in, sum_of}
 
 -- ---- numbers and nulls
 
@@ -118,19 +120,11 @@ module _ (kind : NumberKind) (place : ℕ) (rows : List (List CellValue)) (cells
   pub whole_numbers : filter_map (number_in kind) cells ≡ numbers_in kind place rows
   whole_numbers = ap (filter_map (number_in kind)) kept.column ∙ sym (column_read kind place rows)
 
-  cell_is : (n : ℕ) → get_or cells n null ≡ cell_of kind (get_or (numbers_of cells) n None)
-  cell_is n = ap (λ cs. get_or cs n null) (sym kept.typed) ∙ get_or-map_default (cell_of kind) (numbers_of cells) n None
-
-  pub value_here : (n : ℕ) → value_at (get_or rows n []) place ≡ cell_of kind (get_or (numbers_of cells) n None)
-  value_here n =
-      let none : List CellValue = [] in
-      sym (get_or-map_default (λ (row : List CellValue). get_or row place null) rows n none) ∙ ap (λ cs. get_or cs n null) (sym kept.column) ∙ cell_is n
-
   number_here : (n : ℕ) → cell (number_in kind) (get_or rows n []) place ≡ get_or (numbers_of cells) n None
   number_here n =
       let none : List CellValue = [] in
-      cell_read kind (get_or rows n none) place ∙ ap (number_in kind) (value_here n)
-      ∙ number_read kind (get_or (numbers_of cells) n None) ∙ ap number_of (sym (cell_is n))
+      cell_read kind (get_or rows n none) place ∙ ap (number_in kind) (value_here kind place rows cells kept n)
+      ∙ number_read kind (get_or (numbers_of cells) n None) ∙ ap number_of (sym (cell_is kind place rows cells kept n))
       ∙ sym (get_or-map_default number_of cells n null)
 
   pub part_numbers : (numbers : List ℕ) → numbers_in kind place (numbered numbers rows) ≡ numbers_at cells numbers

@@ -11,7 +11,7 @@ pub mod GroupLemmas
 pub mod GatheredLemmas
 pub mod JoinLemmas
 pub mod PartLemmas
+mod ResultLemmas
 pub mod BegunLemmas
-pub mod CodeLemmas
 pub mod KeptLemmas
 pub mod EndLemmas

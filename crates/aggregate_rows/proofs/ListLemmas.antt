@@ -44,13 +44,6 @@ module _ {A B : Type 0} (R : A → B → Type 0) where
   pub zip_long : (xs : List A) (ys : List B) → AllZip R xs ys → length xs ≡ length ys
   zip_long xs ys z = sym (AllZip-long R xs ys z)
 
-  pub zip_at : (xs : List A) (ys : List B) (i : ℕ) (d : A) (e : B) → AllZip R xs ys → i < length ys → R (get_or xs i d) (get_or ys i e)
-  zip_at [] [] i d e z h = absurd (omega arith)
-  zip_at [] (y ∷ ys) i d e z h = absurd z
-  zip_at (x ∷ xs) [] i d e z h = absurd z
-  zip_at (x ∷ xs) (y ∷ ys) zero d e z h = z.0
-  zip_at (x ∷ xs) (y ∷ ys) (suc i) d e z h = zip_at xs ys i d e z.1 (omega arith)
-
 -- the first elements, of the given count, by one relation, the others by another
 abbrev pub ZipFrom : {A B : Type 0} → (A → B → Type 0) → (A → B → Type 0) → ℕ → List A → List B → Type 0
 ZipFrom R S zero xs ys = AllZip S xs ys

@@ -1,24 +1,27 @@
 -- Rows by their groups.
 use Rattle.std.proofs.Common.{◌≡◌, ℕ, zero, suc, ◌<◌, ◌+◌, Bool, true, false, cond, List, [], ◌∷◌, ◌++◌, Vec, Global, length, take, get_or, inl, inr, refl, sym, ap, subst, ◌∙◌, arith}
-use Rattle.std.specs.Prelude.{nat_eq, slice_set}
+use Rattle.std.specs.Prelude.{nat_eq, slice_get, slice_set}
 use Rattle.std.specs.List.{All, AllByRecursion, IsDistinct}
 use Rattle.std.proofs.lemmas.Bool.{cases_Bool, cases_order, false≢true}
 use Rattle.std.proofs.lemmas.Bool.Decides.{nat_tests}
 use Rattle.std.proofs.lemmas.List.{append-nil, length-take-le, take_more}
 use Rattle.std.proofs.lemmas.List.Elements.{All-from_recursion}
 use Rattle.std.proofs.lemmas.Map.Keys.{apart_from_distinct}
+use Rattle.std.proofs.lemmas.Option.{get_or_from_slice_get}
 use Rattle.cell_types.specs.Value.{CellValue}
 use Rattle.query_meaning.specs.Apply.{rows_of_group, same_values, values_at}
 use Rattle.row_columns.specs.Picked.{numbered}
 use Rattle.aggregate_rows.specs.declared.groups.Groups.{Groups}
-use Rattle.aggregate_rows.specs.Gathered.{keys_held}
+use Rattle.aggregate_rows.specs.Gathered.{keys_held, JoinsGroup, MayJoinGroup}
 use Rattle.aggregate_rows.specs.Parts.{numbers_of_group, AreGroupsOf, ArePartsFrom, ArePartRows}
 use Rattle.aggregate_rows.proofs.GatheredLemmas.{AreOneType}
 use Rattle.aggregate_rows.proofs.GroupLemmas.{same_is, same_self}
-use Rattle.aggregate_rows.specs.declared.accumulator.Accumulator.{Accumulator}
-use Rattle.aggregate_rows.specs.Tallies.{AreAccumulators, FitsAll, MayTallyEach, TalliesEach}
+use Rattle.aggregate_rows.proofs.JoinLemmas.{group_at}
+use Rattle.aggregate_rows.specs.declared.group_row.GroupRow.{GroupRow}
+use Rattle.aggregate_rows.specs.Tallies.{FitsAll, HasResults}
 use Rattle.odata_query.specs.declared.aggregate.Aggregate.{Aggregate}
-use Rattle.aggregate_rows.proofs.ListLemmas.{from_long, next_by, one_more_by, zip_at, zip_long, ZipFrom}
+use Rattle.row_codes.proofs.ListLaws.{zip_at}
+use Rattle.aggregate_rows.proofs.ListLemmas.{from_long, next_by, one_more_by, zip_long, ZipFrom}
 
 -- ---- numbers by their groups
 
@@ -139,37 +142,45 @@ module _ (equal : AreOneType) (places : List ℕ) (groups : Groups) (distinct : 
         part_rows (start + 1) ns gs more keys parts is found (omega arith) (λ j g e less. at (suc j) g (omega (arith, e)) (omega arith)) are.1,
       )
 
--- ---- the part of the next group joins its accumulators
+-- ---- the part of the next group joins its rows
 
 module _ (aggregates : List Aggregate) (rows : List (List CellValue)) (parts : List (Vec ℕ Global)) (keys : List (List CellValue)) (before more : List CellValue → List (List CellValue))
-    (accumulators : List (Vec Accumulator Global)) (i : ℕ) (part : Vec ℕ Global) (inside : i < length parts) (at : part ≡ get_or parts i part) (parts_are : ArePartRows rows more keys parts)
-    (zip : ZipFrom (λ key (ts : Vec Accumulator Global). AreAccumulators aggregates (before key ++ more key) ts.items) (λ key ts. AreAccumulators aggregates (before key) ts.items) i keys accumulators) where
+    (groups : List GroupRow) (i : ℕ) (part : Vec ℕ Global) (inside : i < length parts) (at : part ≡ get_or parts i part) (parts_are : ArePartRows rows more keys parts)
+    (zip : ZipFrom (λ key (ts : GroupRow). HasResults aggregates (before key ++ more key) ts) (λ key ts. HasResults aggregates (before key) ts) i keys groups) where
   there : i < length keys
   there = omega (arith, inside, zip_long (λ key (p : Vec ℕ Global). numbered p.items rows ≡ more key) keys parts parts_are)
 
-  pub group_there : i < length accumulators
+  group_there : i < length groups
   group_there =
-      omega (arith, there, from_long (λ key (ts : Vec Accumulator Global). AreAccumulators aggregates (before key ++ more key) ts.items) (λ key ts. AreAccumulators aggregates (before key) ts.items) keys accumulators i zip)
+      omega (arith, there, from_long (λ key (ts : GroupRow). HasResults aggregates (before key ++ more key) ts) (λ key ts. HasResults aggregates (before key) ts) keys groups i zip)
 
   come : numbered part.items rows ≡ more (get_or keys i [])
   come = ap (λ (p : Vec ℕ Global). numbered p.items rows) at ∙ zip_at (λ key (p : Vec ℕ Global). numbered p.items rows ≡ more key) keys parts i [] part parts_are inside
 
-  its : (old : Vec Accumulator Global) → old ≡ get_or accumulators i old → AreAccumulators aggregates (before (get_or keys i [])) old.items
+  its : (old : GroupRow) → old ≡ get_or groups i old → HasResults aggregates (before (get_or keys i [])) old
   its old is =
-      subst (λ (ts : Vec Accumulator Global). AreAccumulators aggregates (before (get_or keys i [])) ts.items) (sym is)
-      (next_by (λ key (ts : Vec Accumulator Global). AreAccumulators aggregates (before key ++ more key) ts.items) (λ key ts. AreAccumulators aggregates (before key) ts.items) keys accumulators i [] old zip there)
+      subst (λ (ts : GroupRow). HasResults aggregates (before (get_or keys i [])) ts) (sym is)
+      (next_by (λ key (ts : GroupRow). HasResults aggregates (before key ++ more key) ts) (λ key ts. HasResults aggregates (before key) ts) keys groups i [] old zip there)
 
-  pub part_may_join : (old : Vec Accumulator Global) (width : ℕ) → old ≡ get_or accumulators i old
-      → AllByRecursion (λ key. AllByRecursion (FitsAll width (before key ++ more key)) aggregates) keys → MayTallyEach aggregates width old.items (numbered part.items rows)
-  part_may_join old width is fits = record {
-    rows = before (get_or keys i []);
-    accumulators = its old is;
-    fits = subst (λ rs. AllByRecursion (FitsAll width (before (get_or keys i []) ++ rs)) aggregates) (sym come)
-        (All-from_recursion (λ key. AllByRecursion (FitsAll width (before key ++ more key)) aggregates) keys fits i [] there);
-  }
+  pub part_may_join : (mid : Groups) (width : ℕ) → groups ≡ mid.rows.keys → AllByRecursion (λ key. AllByRecursion (FitsAll width (before key ++ more key)) aggregates) keys
+      → MayJoinGroup aggregates mid i width (numbered part.items rows)
+  part_may_join mid width is fits =
+      let here = group_at groups i group_there in
+      record {
+        group = here.0;
+        there = ap (λ gs. slice_get gs i) (sym is) ∙ here.1;
+        may = record {
+          rows = before (get_or keys i []);
+          has = its here.0 here.2;
+          fits = subst (λ rs. AllByRecursion (FitsAll width (before (get_or keys i []) ++ rs)) aggregates) (sym come)
+              (All-from_recursion (λ key. AllByRecursion (FitsAll width (before key ++ more key)) aggregates) keys fits i [] there);
+        };
+      }
 
-  pub part_joined : (old made : Vec Accumulator Global) → old ≡ get_or accumulators i old → TalliesEach aggregates old.items made.items (numbered part.items rows)
-      → ZipFrom (λ key (ts : Vec Accumulator Global). AreAccumulators aggregates (before key ++ more key) ts.items) (λ key ts. AreAccumulators aggregates (before key) ts.items) (i + 1) keys (slice_set accumulators i made)
-  part_joined old made is joins =
-      one_more_by (λ key (ts : Vec Accumulator Global). AreAccumulators aggregates (before key ++ more key) ts.items) (λ key ts. AreAccumulators aggregates (before key) ts.items) keys accumulators i [] made zip there
-      (subst (λ rs. AreAccumulators aggregates (before (get_or keys i []) ++ rs) made.items) come (joins (before (get_or keys i [])) (its old is)))
+  pub part_joined : (old new : Groups) → groups ≡ old.rows.keys → JoinsGroup aggregates old new i (numbered part.items rows)
+      → ZipFrom (λ key (ts : GroupRow). HasResults aggregates (before key ++ more key) ts) (λ key ts. HasResults aggregates (before key) ts) (i + 1) keys new.rows.keys
+  part_joined old new is joins =
+      let at : joins.group ≡ get_or groups i joins.group = sym (get_or_from_slice_get groups i joins.group joins.group (ap (λ gs. slice_get gs i) is ∙ joins.there)) in
+      subst (ZipFrom (λ key (ts : GroupRow). HasResults aggregates (before key ++ more key) ts) (λ key ts. HasResults aggregates (before key) ts) (i + 1) keys) (ap (λ gs. slice_set gs i joins.made) is ∙ sym joins.rows)
+      (one_more_by (λ key (ts : GroupRow). HasResults aggregates (before key ++ more key) ts) (λ key ts. HasResults aggregates (before key) ts) keys groups i [] joins.made zip there
+      (subst (λ rs. HasResults aggregates (before (get_or keys i []) ++ rs) joins.made) come (joins.joins (before (get_or keys i [])) (its joins.group at))))

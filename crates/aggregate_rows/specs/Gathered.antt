@@ -1,9 +1,8 @@
 -- The rows of `aggregate` and of `groupby` (OData Data Aggregation 4.0, sections 3.2.1 and 3.2.3), gathered while the rows come of which they are computed.
-use Rattle.std.specs.Prelude.{◌≡◌, ◌≢◌, ◌<◌, ◌+◌, ◌++◌, ℕ, true, false, List, Vec, [], ◌∷◌, Option, Some, None, IfSome, length, map, option_map, slice_index_or}
-use Rattle.std.specs.Global.{Global}
+use Rattle.std.specs.Prelude.{◌≡◌, ◌≢◌, ◌<◌, ◌+◌, ◌++◌, ℕ, true, false, List, [], ◌∷◌, Option, Some, None, IfSome, length, map, option_map, slice_get, slice_index_or, slice_set}
 use Rattle.std.specs.List.{All, AllByRecursion, AllZip, list_any}
 use Rattle.std.specs.Borrow.{Bor}
-use Rattle.cell_types.specs.Value.{CellValue, value_view}
+use Rattle.cell_types.specs.Value.{CellValue}
 use Rattle.odata_query.specs.declared.aggregate.Aggregate.{Aggregate}
 use Rattle.odata_query.specs.declared.aggregate.Aggregate.TheVariants.{Count}
 use Rattle.odata_query.specs.Aggregate.{NamedAggregateOf}
@@ -12,9 +11,9 @@ use Rattle.insertion_map.specs.Places.{insert_key}
 use Rattle.query_meaning.specs.Apply.{computed_value, computed_values, group_values, rows_of_group, same_values}
 use Rattle.aggregate_rows.specs.declared.aggregator.Aggregator.{Aggregator}
 use Rattle.aggregate_rows.specs.declared.groups.Groups.{Groups}
-use Rattle.aggregate_rows.specs.declared.accumulator.Accumulator.{Accumulator}
+use Rattle.aggregate_rows.specs.declared.group_row.GroupRow.{GroupRow}
 use Rattle.aggregate_rows.specs.Groups.{grouped_rows}
-use Rattle.aggregate_rows.specs.Tallies.{aggregates_at, AreAccumulators, FitsAll}
+use Rattle.aggregate_rows.specs.Tallies.{aggregates_at, key_of_group, FitsAll, HasResults, MayTallyEach, TalliesEach}
 
 -- one row of aggregates of all rows, or a row for each group of those with the same values in some columns
 abbrev pub gathered_rows : Option (List ℕ) → List NamedAggregateOf → List (List CellValue) → List (List CellValue)
@@ -35,10 +34,10 @@ abbrev pub part_of : Option (List ℕ) → List (List CellValue) → List CellVa
 part_of None rows key = rows
 part_of (Some places) rows key = rows_of_group places rows key
 
--- those are the groups of the rows: their values, and what is kept of the rows of each
+-- those are the groups of the rows: their values, and what is computed of the rows of each
 pub record HasGroups (places : Option (List ℕ)) (aggregates : List Aggregate) (groups : Groups) (rows : List (List CellValue)) : Type 0 where
-  pub keys_are : map (λ key. map value_view key.items) groups.keys.keys ≡ group_keys places rows
-  pub accumulators_are : AllZip (λ part accumulators. AreAccumulators aggregates part accumulators.items) (map (part_of places rows) (group_keys places rows)) groups.accumulators.items
+  pub keys_are : map key_of_group groups.rows.keys ≡ group_keys places rows
+  pub results_are : AllZip (HasResults aggregates) (map (part_of places rows) (group_keys places rows)) groups.rows.keys
 
 -- aggregates without their names
 abbrev pub plain_aggregates : List NamedAggregateOf → List Aggregate
@@ -99,9 +98,24 @@ pub record MayJoinGroups (places : Option (List ℕ)) (aggregates : List Aggrega
 abbrev pub JoinsGroups : Option (List ℕ) → List Aggregate → Groups → Groups → List (List CellValue) → Type 0
 JoinsGroups places aggregates old new more = (rows : List (List CellValue)) → HasGroups places aggregates old rows → HasGroups places aggregates new (rows ++ more)
 
+-- more rows may join those of the group at a place
+pub record MayJoinGroup (aggregates : List Aggregate) (groups : Groups) (place width : ℕ) (more : List (List CellValue)) : Type 0 where
+  pub group : GroupRow
+  pub there : slice_get groups.rows.keys place ≡ Some group
+  pub may : MayTallyEach aggregates width group more
+
+-- and these joined: its key stays, and so do the others
+pub record JoinsGroup (aggregates : List Aggregate) (old new : Groups) (place : ℕ) (more : List (List CellValue)) : Type 0 where
+  pub group : GroupRow
+  pub there : slice_get old.rows.keys place ≡ Some group
+  pub made : GroupRow
+  pub key : key_of_group made ≡ key_of_group group
+  pub joins : TalliesEach aggregates group made more
+  pub rows : new.rows.keys ≡ slice_set old.rows.keys place made
+
 -- the values of each group
 abbrev pub keys_held : Groups → List (List CellValue)
-keys_held groups = map (λ key. map value_view key.items) groups.keys.keys
+keys_held groups = map key_of_group groups.rows.keys
 
 -- that is the group of these values
 abbrev pub IsGroupOf : Groups → List CellValue → ℕ → Type 0
@@ -110,9 +124,9 @@ IsGroupOf groups key group = (group < length (keys_held groups)) × (slice_index
 -- the group of a key is one of those that there were, or a new one of no rows, after the others
 pub record HasGroupMore (aggregates : List Aggregate) (old new : Groups) (key : List CellValue) : Type 0 where
   pub keys : keys_held new ≡ insert_key same_values (keys_held old) key
-  pub stay : list_any (same_values key) (keys_held old) ≡ true → new.accumulators.items ≡ old.accumulators.items
+  pub stay : list_any (same_values key) (keys_held old) ≡ true → new.rows.keys ≡ old.rows.keys
   pub begins : list_any (same_values key) (keys_held old) ≡ false
-      → (made : Vec Accumulator Global) × AreAccumulators aggregates [] made.items × (new.accumulators.items ≡ old.accumulators.items ++ made ∷ [])
+      → (made : GroupRow) × HasResults aggregates [] made × (new.rows.keys ≡ old.rows.keys ++ made ∷ [])
 
 -- how many values make a group, and for each group these and what is computed of its rows
 abbrev pub key_width : Option (List ℕ) → ℕ
@@ -121,6 +135,11 @@ key_width (Some places) = length places
 
 abbrev pub rows_gathered : Option (List ℕ) → List Aggregate → List (List CellValue) → List (List CellValue)
 rows_gathered places aggregates rows = map (λ key. key ++ map (computed_value (part_of places rows key)) aggregates) (group_keys places rows)
+
+-- those are the values of a group's key, and after them what the aggregates at places compute of any rows whose results it has
+abbrev pub ShowsGroup : GroupRow → List ℕ → List CellValue → Type 0
+ShowsGroup group shown row = (aggregates : List Aggregate) (rows : List (List CellValue)) → HasResults aggregates rows group
+    → row ≡ key_of_group group ++ map (computed_value rows) (aggregates_at shown aggregates)
 
 -- the groups are those of some rows, with keys of that many columns, and these places are among the aggregates
 abbrev pub HaveShown : Groups → ℕ → List ℕ → Type 0

@@ -5,7 +5,6 @@ pub use Rattle.query_meaning.specs.Meaning
 pub use Rattle.row_columns.specs.Columns
 pub use Rattle.row_columns.specs.Kinds
 pub use Rattle.row_columns.specs.Picked
-pub mod Codes
 pub mod Computed
 pub mod Gathered
 pub mod Parts

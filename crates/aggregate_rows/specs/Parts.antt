@@ -8,12 +8,12 @@ use Rattle.query_meaning.specs.Apply.{group_values, rows_of_group, values_at}
 use Rattle.row_columns.specs.Picked.{numbered}
 use Rattle.aggregate_rows.specs.declared.groups.Groups.{Groups}
 use Rattle.aggregate_rows.specs.Gathered.{keys_held, HasGroups, IsGroupOf}
-use Rattle.aggregate_rows.specs.Tallies.{AreAccumulators, FitsAll}
+use Rattle.aggregate_rows.specs.Tallies.{FitsAll, HasResults}
 
 -- those are the groups of rows and of more, of which the first joined
 pub record AreBegun (places : List ℕ) (aggregates : List Aggregate) (groups : Groups) (rows more : List (List CellValue)) : Type 0 where
   pub keys_are : keys_held groups ≡ group_values places (rows ++ more)
-  pub accumulators_are : AllZip (λ part accumulators. AreAccumulators aggregates part accumulators.items) (map (rows_of_group places rows) (group_values places (rows ++ more))) groups.accumulators.items
+  pub results_are : AllZip (HasResults aggregates) (map (rows_of_group places rows) (group_values places (rows ++ more))) groups.rows.keys
 
 -- the groups of more rows are there, which did not join yet
 abbrev pub BeginsGroups : List ℕ → List Aggregate → Groups → Groups → List (List CellValue) → Type 0
@@ -38,7 +38,7 @@ abbrev pub ArePartRows : List (List CellValue) → (List CellValue → List (Lis
 ArePartRows rows more keys parts = AllZip (λ key part. numbered part.items rows ≡ more key) keys parts
 
 abbrev pub HaveJoined : List Aggregate → (List CellValue → List (List CellValue)) → List (List CellValue) → Groups → Type 0
-HaveJoined aggregates rows keys groups = AllZip (λ key accumulators. AreAccumulators aggregates (rows key) accumulators.items) keys groups.accumulators.items
+HaveJoined aggregates rows keys groups = AllZip (λ key group. HasResults aggregates (rows key) group) keys groups.rows.keys
 
 pub record MayJoinParts (aggregates : List Aggregate) (width : ℕ) (old : Groups) (rows : List (List CellValue)) (parts : List (Vec ℕ Global)) : Type 0 where
   pub keys : List (List CellValue)

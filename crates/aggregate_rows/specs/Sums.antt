@@ -14,11 +14,6 @@ use Rattle.query_meaning.specs.Fitting.{AreSummable}
 abbrev pub numbers_in : NumberKind → ℕ → List (List CellValue) → List ℤ
 numbers_in kind place rows = filter_map (λ row. cell (number_in kind) row place) rows
 
--- the cells are those that rows have in a column, and all are null or numbers of that kind
-pub record IsKeptAs (kind : NumberKind) (place : ℕ) (rows : List (List CellValue)) (cells : List CellValue) : Type 0 where
-  pub column : cells ≡ column_of rows place
-  pub typed : cells_of_kind kind (numbers_of cells) ≡ cells
-
 -- the numbers that stand for those of the cells that have these places
 abbrev pub numbers_at : List CellValue → List ℕ → List ℤ
 numbers_at cells places = filter_map (λ place. slice_index_or (numbers_of cells) place None) places

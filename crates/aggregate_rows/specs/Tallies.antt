@@ -1,18 +1,18 @@
 -- What is kept of rows while they come, for each aggregate (OData Data Aggregation 4.0, section 3.1.3).
-use Rattle.std.specs.Prelude.{◌≡◌, ◌<◌, ◌++◌, ◌∷◌, ◌^◌, ◌+ℤ◌, ℕ, pos, true, false, filter, List, [], Some, length, map, slice_index_or}
+use Rattle.std.specs.Prelude.{Box, ◌≡◌, ◌<◌, ◌++◌, ◌∷◌, ◌^◌, ◌+ℤ◌, ℕ, pos, true, false, filter, List, [], Option, None, Some, drop, length, map, slice_index_or, take}
 use Rattle.std.specs.List.{AllByRecursion, AllZip, IsDistinct, list_any}
 use Rattle.std.specs.Set.{distinct_count}
+use Rattle.std.specs.Global.{Global}
 use Rattle.cell_types.specs.Kind.{cell_of}
 use Rattle.cell_types.specs.Value.{CellValue, value_eq, value_view}
+use Rattle.cell_types.specs.declared.value.Value.{Value}
 use Rattle.odata_query.specs.declared.aggregate.Aggregate.{Aggregate}
 use Rattle.odata_query.specs.declared.aggregate.Aggregate.TheVariants.{Count, SumOfIntegers, SumOfDecimals, Min, Max, CountDistinct}
 use Rattle.query_meaning.specs.Apply.{computed_value, is_value, present_values}
 use Rattle.query_meaning.specs.Fitting.{AreSummable}
-use Rattle.aggregate_rows.specs.declared.accumulator.Accumulator.{Accumulator}
-use Rattle.aggregate_rows.specs.declared.accumulator.Accumulator.TheVariants as accumulator
 use Rattle.aggregate_rows.specs.declared.distinct.Distinct.{Distinct}
+use Rattle.aggregate_rows.specs.declared.group_row.GroupRow.{GroupRow}
 use Rattle.aggregate_rows.specs.Computed.{decimals_in, integers_in}
-use Rattle.aggregate_rows.specs.Sums.{sum_of}
 
 -- values have each of some others once
 pub record HasDistinct (keys values : List CellValue) : Type 0 where
@@ -26,28 +26,29 @@ pub record HoldsDistinct (distinct : Distinct) (values : List CellValue) : Type 
   pub marked : (mark : ℕ) → slice_index_or distinct.marks.items mark false ≡ true
       → list_any (value_eq (cell_of distinct.kind (Some (distinct.span.least +ℤ pos mark)))) values ≡ true
 
--- the place of the column of which an accumulator is
-abbrev pub own_place : Accumulator → ℕ
-own_place (accumulator.Count _) = 0
-own_place (accumulator.SumOfIntegers place _) = place
-own_place (accumulator.SumOfDecimals place _) = place
-own_place (accumulator.Min place _) = place
-own_place (accumulator.Max place _) = place
-own_place (accumulator.CountDistinct place _) = place
+-- the column whose different values an aggregate counts
+abbrev pub distinct_place : Aggregate → Option ℕ
+distinct_place (CountDistinct place) = Some place
+distinct_place _ = None
 
--- how many rows there were; the sum of their numbers; the least or the greatest of their values; each of their values
-abbrev pub IsAccumulator : Aggregate → List (List CellValue) → Accumulator → Type 0
-IsAccumulator Count rows (accumulator.Count count) = count ≡ length rows
-IsAccumulator (SumOfIntegers place) rows (accumulator.SumOfIntegers own sum) = (own ≡ place) × (sum ≡ sum_of (integers_in place rows))
-IsAccumulator (SumOfDecimals place) rows (accumulator.SumOfDecimals own sum) = (own ≡ place) × (sum ≡ sum_of (decimals_in place rows))
-IsAccumulator (Min place) rows (accumulator.Min own value) = (own ≡ place) × (value_view value ≡ computed_value rows (Min place))
-IsAccumulator (Max place) rows (accumulator.Max own value) = (own ≡ place) × (value_view value ≡ computed_value rows (Max place))
-IsAccumulator (CountDistinct place) rows (accumulator.CountDistinct own values) = (own ≡ place) × HoldsDistinct values.value (present_values place rows)
-IsAccumulator _ _ _ = ⊥
+-- the values of a group's key
+abbrev pub key_of_group : GroupRow → List CellValue
+key_of_group group = map value_view (take group.width group.values.items)
 
--- of each aggregate
-abbrev pub AreAccumulators : List Aggregate → List (List CellValue) → List Accumulator → Type 0
-AreAccumulators aggregates rows accumulators = AllZip (λ a t. IsAccumulator a rows t) aggregates accumulators
+-- an aggregate that counts different values has those of the rows
+abbrev pub HasSet : List (List CellValue) → Aggregate → Option (Box Distinct Global) → Type 0
+HasSet rows (CountDistinct place) (Some set) = HoldsDistinct set.value (present_values place rows)
+HasSet rows (CountDistinct place) None = ⊥
+HasSet rows _ set = Unit {0}
+
+-- so of each aggregate, at its place
+abbrev pub HaveSets : List (List CellValue) → List Aggregate → List (Option (Box Distinct Global)) → Type 0
+HaveSets rows aggregates sets = (i : ℕ) → HasSet rows (slice_index_or aggregates i Count) (slice_index_or sets i None)
+
+-- what each aggregate computes of rows comes after the key
+pub record HasResults (aggregates : List Aggregate) (rows : List (List CellValue)) (group : GroupRow) : Type 0 where
+  pub results : AllZip (λ a v. value_view v ≡ computed_value rows a) aggregates (drop group.width group.values.items)
+  pub sets : HaveSets rows aggregates group.sets.items
 
 -- an aggregate can be computed of rows of `width` columns: its column is there, the number of the rows fits 64 bits, and each sum fits 128
 abbrev pub FitsAll : ℕ → List (List CellValue) → Aggregate → Type 0
@@ -58,15 +59,15 @@ FitsAll width rows (Min place) = place < width
 FitsAll width rows (Max place) = place < width
 FitsAll width rows (CountDistinct place) = place < width
 
--- more rows may join those of an accumulator: it is that of some, and the aggregate can be computed of all of them
-pub record MayTally (aggregate : Aggregate) (width : ℕ) (old : Accumulator) (more : List (List CellValue)) : Type 0 where
+-- more rows may join those of which a value is computed: the aggregate can be computed of all of them
+pub record MayTally (aggregate : Aggregate) (width : ℕ) (old : CellValue) (more : List (List CellValue)) : Type 0 where
   pub rows : List (List CellValue)
-  pub accumulator : IsAccumulator aggregate rows old
+  pub is : old ≡ computed_value rows aggregate
   pub fits : FitsAll width (rows ++ more) aggregate
 
 -- more rows joined them
-abbrev pub Tallies : Aggregate → Accumulator → Accumulator → List (List CellValue) → Type 0
-Tallies aggregate old new more = (rows : List (List CellValue)) → IsAccumulator aggregate rows old → IsAccumulator aggregate (rows ++ more) new
+abbrev pub Tallies : Aggregate → CellValue → CellValue → List (List CellValue) → Type 0
+Tallies aggregate old new more = (rows : List (List CellValue)) → old ≡ computed_value rows aggregate → new ≡ computed_value (rows ++ more) aggregate
 
 -- what has each of some values once has each of these and of more
 abbrev pub JoinsDistinct : List CellValue → List CellValue → List CellValue → Type 0
@@ -79,20 +80,20 @@ JoinsValue old new value = (seen : List CellValue) → HoldsDistinct old seen �
 abbrev pub JoinsValues : ℕ → Distinct → Distinct → List (List CellValue) → Type 0
 JoinsValues place old new more = (rows : List (List CellValue)) → HoldsDistinct old (present_values place rows) → HoldsDistinct new (present_values place (rows ++ more))
 
--- the same of each aggregate
-pub record MayTallyEach (aggregates : List Aggregate) (width : ℕ) (old : List Accumulator) (more : List (List CellValue)) : Type 0 where
+-- and the value is then how many there are
+abbrev pub JoinsSet : ℕ → Option (Box Distinct Global) → Option (Box Distinct Global) → List (List CellValue) → Value → Type 0
+JoinsSet place old new more value = (rows : List (List CellValue)) → HasSet rows (CountDistinct place) old
+    → HasSet (rows ++ more) (CountDistinct place) new × (value_view value ≡ computed_value (rows ++ more) (CountDistinct place))
+
+-- more rows may join those of a group
+pub record MayTallyEach (aggregates : List Aggregate) (width : ℕ) (old : GroupRow) (more : List (List CellValue)) : Type 0 where
   pub rows : List (List CellValue)
-  pub accumulators : AreAccumulators aggregates rows old
+  pub has : HasResults aggregates rows old
   pub fits : AllByRecursion (FitsAll width (rows ++ more)) aggregates
 
-abbrev pub TalliesEach : List Aggregate → List Accumulator → List Accumulator → List (List CellValue) → Type 0
-TalliesEach aggregates old new more = (rows : List (List CellValue)) → AreAccumulators aggregates rows old → AreAccumulators aggregates (rows ++ more) new
+abbrev pub TalliesEach : List Aggregate → GroupRow → GroupRow → List (List CellValue) → Type 0
+TalliesEach aggregates old new more = (rows : List (List CellValue)) → HasResults aggregates rows old → HasResults aggregates (rows ++ more) new
 
 -- the aggregates at places
 abbrev pub aggregates_at : List ℕ → List Aggregate → List Aggregate
 aggregates_at shown aggregates = map (λ place. slice_index_or aggregates place Count) shown
-
--- after the values of a key, what is computed of rows by some of their accumulators
-abbrev pub IsRowOfAccumulators : List CellValue → List Aggregate → List ℕ → List Accumulator → List CellValue → Type 0
-IsRowOfAccumulators key aggregates shown accumulators row = (rows : List (List CellValue)) → AreAccumulators aggregates rows accumulators
-    → row ≡ key ++ map (computed_value rows) (aggregates_at shown aggregates)

@@ -8,7 +8,7 @@ ghost use Rattle.row_columns.specs.Picked.{numbered};
 ghost use Rattle.aggregate_rows.specs.Gathered.{gathered_rows, gathered_width, lent_places, plain_aggregates, AreOnce, Gathers, HasGatheredRows, HasGatheredWidth, HasGroupCount, Adjoins, MayJoin};
 ghost use Rattle.aggregate_rows.specs.Tallies.{FitsAll};
 
-use crate::groups::{Grouping, Groups};
+use crate::groups::{Grouping, Groups, RowsAt};
 use odata_query::{Aggregate, NamedAggregate};
 use row_columns::Columns;
 use row_selection::Selection;
@@ -69,7 +69,10 @@ impl Aggregator {
         ensures { OnOk result (Adjoins self.old self.new (numbered numbers.now columns.now.rows)) }
     {
         match &self.places {
-            None => self.groups.join_whole(alloc, columns, numbers),
+            None => {
+                let rows = RowsAt { columns, numbers };
+                self.groups.join_group(alloc, 0, &self.aggregates, rows)
+            }
             Some(places) => {
                 let grouping = Grouping {
                     places,
@@ -84,7 +87,7 @@ impl Aggregator {
     pub fn group_count(&self) -> usize
         ensures { HasGroupCount self.now result }
     {
-        self.groups.accumulators.len()
+        self.groups.rows.len()
     }
 
     /// Returns the one row of `aggregate`, or the rows of `groupby`, of all rows that joined, in columns of any. Groups are in the order of their first rows.

@@ -1,16 +1,17 @@
 //! Groups of rows, by their values in some columns, while rows come.
-ghost use Rattle.std.specs.Prelude.{◌≡◌, ◌<◌, ◌+◌, ◌^◌, [], ℕ, IfOk, List, None, OnOk, Option, Some, length, map, replicate, slice_index_or};
+ghost use Rattle.std.specs.Prelude.{◌≡◌, ◌<◌, ◌+◌, ◌^◌, [], ℕ, IfOk, IsTrue, List, None, OnOk, Option, Some, length, map, replicate, slice_index_or};
 ghost use Rattle.std.specs.List.{All};
 ghost use Rattle.cell_types.specs.Value.{CellValue, value_view};
 ghost use Rattle.odata_query.specs.declared.aggregate.Aggregate.{Aggregate};
 ghost use Rattle.query_meaning.specs.Apply.{values_at};
 ghost use Rattle.row_columns.specs.Kinds.{any};
 ghost use Rattle.row_columns.specs.Picked.{numbered};
-ghost use Rattle.aggregate_rows.specs.Gathered.{HasGroupMore, HasGroups, HaveShown, IsGroupOf, JoinsGroups, MakesRows, MayJoinGroups};
+ghost use Rattle.aggregate_rows.specs.Gathered.{HasGroupMore, HasGroups, HaveShown, IsGroupOf, ShowsGroup, JoinsGroup, JoinsGroups, MakesRows, MayJoinGroup, MayJoinGroups};
+ghost use Rattle.aggregate_rows.specs.Tallies.{key_of_group, HasResults};
 
-use crate::accumulator::Accumulator;
-use crate::accumulators::{accumulators_of_none, join_each, row_of};
+use crate::group_row::GroupRow;
 use crate::parts::parts_of;
+use crate::results::{join_each, result_of_none, sets_of_none};
 use cell_types::{Value, owned};
 use insertion_map::KeyPlaces;
 use odata_query::Aggregate;
@@ -25,11 +26,17 @@ pub(crate) struct Grouping<'a> {
     pub(crate) aggregates: &'a [Aggregate],
 }
 
-/// Groups in the order of their first rows: the values of each, and what is computed of its rows.
+/// Rows of columns.
+#[derive(Clone, Copy)]
+pub(crate) struct RowsAt<'a> {
+    pub(crate) columns: &'a Columns,
+    pub(crate) numbers: &'a Selection,
+}
+
+/// Groups in the order of their first rows.
 #[derive(Drop)]
 pub(crate) struct Groups {
-    pub(crate) keys: KeyPlaces<Vec<Value<'static>>>,
-    pub(crate) accumulators: Vec<Vec<Accumulator>>,
+    pub(crate) rows: KeyPlaces<GroupRow<'static>>,
 }
 
 impl Groups {
@@ -37,12 +44,10 @@ impl Groups {
     pub(crate) fn none(alloc: Global) -> Groups
         ensures groups { (places : List ℕ) (aggregates : List Aggregate)
             → HasGroups (Some places) aggregates result [] }
-        ensures keys { result.keys.keys ≡ [] }
-        ensures accumulators { result.accumulators.items ≡ [] }
+        ensures rows { result.rows.keys ≡ [] }
     {
         Groups {
-            keys: KeyPlaces::new(alloc),
-            accumulators: Vec::new(alloc),
+            rows: KeyPlaces::new(alloc),
         }
     }
 
@@ -51,26 +56,31 @@ impl Groups {
         ensures { IfOk result (λ groups. HasGroups None aggregates.now groups []) }
     {
         let mut groups = Groups::none(alloc);
-        groups.keys.insert(Vec::new(alloc))?;
-        let accumulators = accumulators_of_none(alloc, aggregates)?;
-        groups.accumulators.push(accumulators)?;
+        groups.rows.insert(group_of_none(alloc, &[], aggregates)?)?;
         Ok(groups)
     }
 
-    /// Joins the rows with these numbers to the one group of all rows.
-    pub(crate) fn join_whole(
+    /// Joins rows to those of the group at `place`.
+    pub(crate) fn join_group(
         &mut self,
         alloc: Global,
-        columns: &Columns,
-        numbers: &Selection,
+        place: usize,
+        aggregates: &[Aggregate],
+        rows: RowsAt<'_>,
     ) -> Result<(), AllocError>
-        requires within { All (λ number. number < length columns.now.rows) numbers.now }
-        requires joins { (aggregates : List Aggregate) × MayJoinGroups None aggregates
-            (length columns.now.kinds) self.old (numbered numbers.now columns.now.rows) }
-        ensures { OnOk result ((aggregates : List Aggregate) → JoinsGroups None aggregates self.old
-            self.new (numbered numbers.now columns.now.rows)) }
+        requires within { All (λ number. number < length rows.columns.now.rows)
+            rows.numbers.now }
+        requires joins { MayJoinGroup aggregates.now self.old place
+            (length rows.columns.now.kinds) (numbered rows.numbers.now rows.columns.now.rows) }
+        ensures { OnOk result (JoinsGroup aggregates.now self.old self.new place
+            (numbered rows.entry.numbers.now rows.entry.columns.now.rows)) }
     {
-        join_each(alloc, &mut self.accumulators[0], columns, numbers)
+        cell_types::values_are_ordered();
+        cell_types::values_compare_as_their_views();
+        let RowsAt { columns, numbers } = rows;
+        self.rows.change_at(place, |group| {
+            join_each(alloc, group, aggregates, columns, numbers)
+        })
     }
 
     /// Joins the rows with these numbers to the groups of their values.
@@ -92,8 +102,8 @@ impl Groups {
         cell_types::values_are_ordered();
         query_meaning::rows_are_in_groups();
         if let Some(groups) = self.groups_of(alloc, columns, numbers, grouping)? {
-            let parts = parts_of(alloc, self.keys.len(), numbers, &groups)?;
-            return self.join_parts(alloc, columns, parts);
+            let parts = parts_of(alloc, self.rows.len(), numbers, &groups)?;
+            return self.join_parts(alloc, columns, parts, grouping.aggregates);
         }
         self.join_each_row(alloc, columns, numbers, grouping)
     }
@@ -117,43 +127,42 @@ impl Groups {
         cell_types::values_are_ordered();
         query_meaning::rows_are_in_groups();
         let Grouping { places, aggregates } = grouping;
-        let mut key = Vec::with_capacity(alloc, places.len())?;
+        let mut key = GroupRow::with_room(alloc, places.len())?;
         for i in 0..numbers.len() {
             let number = numbers.at(i);
             read_key(&mut key, columns, number, places)?;
-            let row = Selection::one(number);
-            let group = self.group_of(alloc, &key, aggregates)?;
-            join_each(alloc, &mut self.accumulators[group], columns, &row)?;
+            let numbers = &Selection::one(number);
+            let place = self.group_of(alloc, &key, aggregates)?;
+            self.join_group(alloc, place, aggregates, RowsAt { columns, numbers })?;
         }
         Ok(())
     }
 
-    /// Returns the group of a key. One of no rows comes after the others if the key is none of theirs; the key is looked up before it is copied.
+    /// Returns the place of the group of a key. One of no rows comes after the others if the key is none of theirs; the key is looked up before it is copied.
     pub(crate) fn group_of(
         &mut self,
         alloc: Global,
-        key: &Vec<Value<'_>>,
+        key: &GroupRow<'_>,
         aggregates: &[Aggregate],
     ) -> Result<usize, AllocError>
-        ensures group { IfOk result (IsGroupOf self.new (map value_view key.now.items)) }
+        ensures group { IfOk result (IsGroupOf self.new (key_of_group key.now)) }
         ensures more { OnOk result (HasGroupMore aggregates.now self.old self.new
-            (map value_view key.now.items)) }
+            (key_of_group key.now)) }
     {
         cell_types::values_are_ordered();
         cell_types::values_compare_as_their_views();
-        match self.keys.place(key) {
-            Some(group) => Ok(group),
+        match self.rows.place(key) {
+            Some(place) => Ok(place),
             None => {
-                let group = self.keys.len();
-                let accumulators = accumulators_of_none(alloc, aggregates)?;
-                self.keys.insert(owned_key(alloc, key, aggregates.len())?)?;
-                self.accumulators.push(accumulators)?;
-                Ok(group)
+                let place = self.rows.len();
+                let group = group_of_none(alloc, key.key(), aggregates)?;
+                self.rows.insert(group)?;
+                Ok(place)
             }
         }
     }
 
-    /// Returns a row for each group: its values, and what is computed of its rows by the aggregates at `shown`. Its values are moved there.
+    /// Returns a row for each group: its values, and what is computed of its rows by the aggregates at `shown`.
     pub(crate) fn into_rows(
         self,
         alloc: Global,
@@ -166,43 +175,95 @@ impl Groups {
             made.kinds ≡ replicate (width + length shown.now) any) }
         ensures rows { IfOk result (λ made. MakesRows self shown.now made.rows) }
     {
-        let Groups { keys, accumulators } = self;
-        let keys = keys.into_keys();
-        let mut rows = Vec::with_capacity(alloc, keys.len())?;
-        let mut group = 0;
-        for key in keys {
-            rows.push(row_of(alloc, key, &accumulators[group], shown)?)?;
-            group += 1;
+        let groups = self.rows.into_keys();
+        let mut rows = Vec::with_capacity(alloc, groups.len())?;
+        for group in groups {
+            rows.push(shown_row(alloc, group, shown)?)?;
         }
         Columns::of_rows(alloc, width + shown.len(), rows)
     }
 }
 
-/// Reads the values that a row has in the columns with these places, in the place of those that were read before.
+/// Returns true if the places are those of `count` results, each once and in their order.
+fn are_all(shown: &[usize], count: usize) -> bool
+    ensures { IsTrue result → (length shown.now ≡ count)
+        × ((i : ℕ) → i < count → slice_index_or shown.now i 0 ≡ i) }
+{
+    if shown.len() != count {
+        return false;
+    }
+    for i in 0..count {
+        if shown[i] != i {
+            return false;
+        }
+    }
+    true
+}
+
+/// Returns the values of a group's key, and after them its results at `shown`. The row itself is given if they are all, in their order.
+fn shown_row(
+    alloc: Global,
+    group: GroupRow<'static>,
+    shown: &[usize],
+) -> Result<Vec<Value<'static>>, AllocError>
+    requires { (aggregates : List Aggregate) × (rows : List (List CellValue))
+        × HasResults aggregates rows group × All (λ place. place < length aggregates) shown.now }
+    ensures { IfOk result (λ row. ShowsGroup group.entry shown.now (map value_view row.items)) }
+{
+    if are_all(shown, group.values.len().saturating_sub(group.width)) {
+        let GroupRow { values, .. } = group;
+        return Ok(values);
+    }
+    let mut row = copied(alloc, group.key(), shown.len())?;
+    for place in shown {
+        row.push(owned(alloc, &group.values[group.width + *place])?)?;
+    }
+    Ok(row)
+}
+
+/// Reads the values that a row has in the columns with these places as a key, in the place of the one before.
 pub(crate) fn read_key<'a>(
-    key: &mut Vec<Value<'a>>,
+    key: &mut GroupRow<'a>,
     columns: &'a Columns,
     number: usize,
     places: &[usize],
 ) -> Result<(), AllocError>
     requires row { number < length columns.now.rows }
     requires places { All (λ place. place < length columns.now.kinds) places.now }
-    ensures { OnOk result (map value_view key.new.items
+    ensures { OnOk result (key_of_group key.new
         ≡ values_at places.now (slice_index_or columns.now.rows number [])) }
 {
-    key.clear();
+    key.values.clear();
     for place in places {
-        key.push(columns.value(number, *place))?;
+        key.values.push(columns.value(number, *place))?;
     }
+    key.width = places.len();
     Ok(())
 }
 
-/// Returns a copy of a key that lives on its own, with room for `more` values.
-fn owned_key(
+/// Returns a group of no rows with a key.
+fn group_of_none(
     alloc: Global,
     key: &[Value<'_>],
-    more: usize,
-) -> Result<Vec<Value<'static>>, AllocError>
+    aggregates: &[Aggregate],
+) -> Result<GroupRow<'static>, AllocError>
+    ensures key { IfOk result (λ group. key_of_group group ≡ map value_view key.now) }
+    ensures results { IfOk result (HasResults aggregates.now []) }
+{
+    let mut values = copied(alloc, key, aggregates.len())?;
+    for aggregate in aggregates {
+        values.push(result_of_none(*aggregate))?;
+    }
+    let sets = sets_of_none(alloc, aggregates)?;
+    Ok(GroupRow {
+        values,
+        width: key.len(),
+        sets,
+    })
+}
+
+/// Returns a copy of a key that lives on its own, with room for `more` values.
+fn copied(alloc: Global, key: &[Value<'_>], more: usize) -> Result<Vec<Value<'static>>, AllocError>
     ensures { IfOk result (λ copy. map value_view copy.items ≡ map value_view key.now) }
 {
     let mut copy = Vec::with_capacity(alloc, key.len().saturating_add(more))?;

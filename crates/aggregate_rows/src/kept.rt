@@ -10,7 +10,8 @@ ghost use Rattle.query_meaning.specs.Fitting.{AreSummable};
 ghost use Rattle.row_columns.specs.Picked.{numbered};
 ghost use Rattle.row_eval.specs.Row.{number_in};
 ghost use Rattle.aggregate_rows.specs.Computed.{aggregate_of};
-ghost use Rattle.aggregate_rows.specs.Sums.{numbers_at, numbers_in, sum_of, IsKeptAs};
+ghost use Rattle.row_codes.specs.Kept.{IsKeptAs};
+ghost use Rattle.aggregate_rows.specs.Sums.{numbers_at, numbers_in, sum_of};
 
 use crate::computed::Extreme;
 use crate::sums::{joined_sum, sum_of};

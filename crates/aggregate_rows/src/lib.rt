@@ -2,15 +2,14 @@
 //! piece, keeps of each group its values and what is computed of it so far, and gives the one row of `aggregate` or the rows of `groupby`.
 #![tactic(auto)]
 
-mod accumulator;
-mod accumulators;
 mod aggregator;
-mod codes;
 mod computed;
 mod distinct;
+mod group_row;
 mod groups;
 mod kept;
 mod parts;
+mod results;
 mod sums;
 
 pub use aggregator::{Aggregator, gathered};

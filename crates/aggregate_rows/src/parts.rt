@@ -1,16 +1,15 @@
 //! Rows by their groups, before they join.
 ghost use Rattle.std.specs.Prelude.{◌≡◌, ◌<◌, ◌≤◌, ◌^◌, ℕ, [], IfOk, IfSome, List, None, OnOk, Some, length, slice_index_or};
 ghost use Rattle.std.specs.List.{All, AllByRecursion};
-ghost use Rattle.odata_query.specs.declared.aggregate.Aggregate.{Aggregate};
 ghost use Rattle.query_meaning.specs.Apply.{values_at};
 ghost use Rattle.row_columns.specs.Picked.{numbered};
-ghost use Rattle.aggregate_rows.specs.Gathered.{HasGroupMore, IsGroupOf};
+ghost use Rattle.aggregate_rows.specs.Gathered.{keys_held, HasGroupMore, IsGroupOf};
 ghost use Rattle.aggregate_rows.specs.Parts.{AreGroupsOf, ArePartsFrom, BeginsGroups, JoinsParts, MayJoinParts};
 
-use crate::accumulators::join_each;
-use crate::codes::key_codes;
-use crate::groups::{Grouping, Groups, read_key};
-use cell_types::Value;
+use crate::group_row::GroupRow;
+use crate::groups::{Grouping, Groups, RowsAt, read_key};
+use odata_query::Aggregate;
+use row_codes::key_codes;
 use row_columns::Columns;
 use row_selection::Selection;
 use std::alloc::{AllocError, Global};
@@ -30,6 +29,7 @@ pub(crate) struct RowAt<'a> {
 
 impl Groups {
     /// Returns the groups of the rows with these numbers, each looked up by the code of its values if there are such codes and few groups.
+    #[inline(never)]
     pub(crate) fn groups_of(
         &mut self,
         alloc: Global,
@@ -49,7 +49,7 @@ impl Groups {
             (numbered numbers.now columns.now.rows))) }
     {
         cell_types::values_are_ordered();
-        if self.keys.len() > MOST_PARTS || columns.len() > PART_ROWS {
+        if self.rows.len() > MOST_PARTS || columns.len() > PART_ROWS {
             return Ok(None);
         }
         let Some(codes) = key_codes(alloc, columns, numbers, grouping.places)? else {
@@ -99,6 +99,7 @@ impl Groups {
     }
 
     /// Returns the group of the values of a row.
+    #[inline(never)]
     fn group_of_values<'a>(
         &mut self,
         alloc: Global,
@@ -113,7 +114,7 @@ impl Groups {
         ensures more { OnOk result (HasGroupMore grouping.entry.aggregates.now self.old self.new
             (values_at grouping.entry.places.now (slice_index_or columns.now.rows number []))) }
     {
-        let mut key: Vec<Value<'a>> = Vec::with_capacity(alloc, grouping.places.len())?;
+        let mut key: GroupRow<'a> = GroupRow::with_room(alloc, grouping.places.len())?;
         read_key(&mut key, columns, number, grouping.places)?;
         self.group_of(alloc, &key, grouping.aggregates)
     }
@@ -124,26 +125,28 @@ impl Groups {
         alloc: Global,
         columns: &Columns,
         parts: Vec<Vec<u16>>,
+        aggregates: &[Aggregate],
     ) -> Result<(), AllocError>
         requires within { AllByRecursion (λ part.
             All (λ number. number < length columns.now.rows) part.items) parts.items }
-        requires joins { (aggregates : List Aggregate) × MayJoinParts aggregates
-            (length columns.now.kinds) self.old columns.now.rows parts.items }
-        ensures keys { OnOk result (self.new.keys ≡ self.old.keys) }
-        ensures joins { OnOk result ((aggregates : List Aggregate)
-            → JoinsParts aggregates self.old self.new columns.now.rows parts.items) }
+        requires joins { MayJoinParts aggregates.now (length columns.now.kinds) self.old
+            columns.now.rows parts.items }
+        ensures keys { OnOk result (keys_held self.new ≡ keys_held self.old) }
+        ensures joins { OnOk result (JoinsParts aggregates.now self.old self.new
+            columns.now.rows parts.items) }
     {
-        let mut group = 0;
+        let mut place = 0;
         for part in parts {
-            let numbers = Selection::few(part);
-            join_each(alloc, &mut self.accumulators[group], columns, &numbers)?;
-            group += 1;
+            let numbers = &Selection::few(part);
+            self.join_group(alloc, place, aggregates, RowsAt { columns, numbers })?;
+            place += 1;
         }
         Ok(())
     }
 }
 
 /// Returns the numbers of the rows of each group.
+#[inline(never)]
 pub(crate) fn parts_of(
     alloc: Global,
     len: usize,

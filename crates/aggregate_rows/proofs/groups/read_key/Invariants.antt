@@ -6,4 +6,4 @@ use Rattle.aggregate_rows.proofs.groups.read_key.Given as goal
 
 -- the values so far
 abbrev pub invariant-loop-place : goal.invariant-loop-place
-invariant-loop-place l = map value_view l.key.items ≡ values_at (take l.place-index l.places) (slice_index_or l.columns.rows l.number [])
+invariant-loop-place l = map value_view l.key.values.items ≡ values_at (take l.place-index l.places) (slice_index_or l.columns.rows l.number [])

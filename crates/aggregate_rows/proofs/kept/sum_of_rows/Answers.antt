@@ -1,6 +1,7 @@
 use Rattle.std.proofs.Common.{length, sym, ap, subst, ◌∙◌}
 use Rattle.query_meaning.specs.Fitting.{AreSummable}
-use Rattle.aggregate_rows.specs.Sums.{numbers_in, sum_of, IsKeptAs}
+use Rattle.row_codes.specs.Kept.{IsKeptAs}
+use Rattle.aggregate_rows.specs.Sums.{numbers_in, sum_of}
 use Rattle.aggregate_rows.proofs.KeptLemmas.{part_numbers, whole_numbers}
 use Rattle.aggregate_rows.proofs.kept.sum_of_rows.Goals as goal
 

@@ -3,7 +3,7 @@ use Rattle.std.specs.Prelude.{IfSome}
 use Rattle.cell_types.specs.Value.{CellValue}
 use Rattle.query_meaning.specs.Apply.{present_values}
 use Rattle.row_columns.specs.Picked.{numbered}
-use Rattle.aggregate_rows.specs.Sums.{IsKeptAs}
+use Rattle.row_codes.specs.Kept.{IsKeptAs}
 use Rattle.aggregate_rows.specs.Tallies.{HoldsDistinct}
 use Rattle.aggregate_rows.proofs.distinct.Distinct.join.Given as goal
 

@@ -7,7 +7,7 @@ use Rattle.cell_types.specs.Value.{value_view}
 use Rattle.query_meaning.specs.Apply.{is_value, value_at}
 use Rattle.aggregate_rows.specs.Tallies.{JoinsDistinct}
 use Rattle.aggregate_rows.proofs.DistinctLemmas.{marked_again, marked_now, value_joined}
-use Rattle.aggregate_rows.proofs.KeptLemmas.{value_here}
+use Rattle.row_codes.proofs.KeptLaws.{value_here}
 use Rattle.aggregate_rows.proofs.RowLemmas.{value_there}
 use Rattle.aggregate_rows.proofs.distinct.Distinct.join_row.Goals as goal
 use Rattle.aggregate_rows.proofs.distinct.Distinct.join_row.Goals.{in-Some, in-None}

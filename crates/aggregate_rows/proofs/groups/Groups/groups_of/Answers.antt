@@ -5,11 +5,11 @@ use Rattle.std.proofs.lemmas.Slice.Zip.{all_zipped_more}
 use Rattle.cell_types.specs.Value.{CellValue}
 use Rattle.query_meaning.specs.Apply.{values_at}
 use Rattle.row_columns.specs.Picked.{numbered}
-use Rattle.aggregate_rows.specs.Codes.{HaveKeyCodes}
+use Rattle.row_codes.specs.Codes.{HaveKeyCodes}
 use Rattle.aggregate_rows.specs.Gathered.{HasGroupMore, IsGroupOf}
 use Rattle.aggregate_rows.specs.Parts.{AreBegun, AreGroupsOf, BeginsGroups}
 use Rattle.aggregate_rows.proofs.BegunLemmas.{keep_groups, keeps_group, known_more}
-use Rattle.aggregate_rows.proofs.CodeLemmas.{values-here}
+use Rattle.row_codes.proofs.CodeLaws.{values-here}
 use Rattle.aggregate_rows.proofs.JoinLemmas.{begun_more, none_more}
 use Rattle.aggregate_rows.proofs.groups.Groups.groups_of.Goals as goal
 

@@ -1,7 +1,7 @@
 use Rattle.std.proofs.Common.{◌≡◌, ℕ, None, get_or, length, take}
 use Rattle.std.specs.Prelude.{IfSome}
 use Rattle.row_columns.specs.Picked.{numbered}
-use Rattle.aggregate_rows.specs.Codes.{HaveKeyCodes}
+use Rattle.row_codes.specs.Codes.{HaveKeyCodes}
 use Rattle.aggregate_rows.specs.Gathered.{IsGroupOf}
 use Rattle.aggregate_rows.specs.Parts.{AreGroupsOf, BeginsGroups}
 use Rattle.aggregate_rows.proofs.groups.Groups.groups_of.Given as goal

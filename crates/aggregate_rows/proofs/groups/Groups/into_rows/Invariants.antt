@@ -7,9 +7,6 @@ use Rattle.aggregate_rows.specs.Tallies.{aggregates_at}
 use Rattle.aggregate_rows.proofs.groups.Groups.into_rows.Given as goal
 
 -- the rows of the first groups
-abbrev pub invariant-loop-key : goal.invariant-loop-key
-invariant-loop-key l = record {
-  turn : l.group ≡ length l.yielded;
-  made : (places : Option (List ℕ)) (aggregates : List Aggregate) (rows : List (List CellValue)) → HasGroups places aggregates l.fn.self rows
-      → value_rows l.rows.items ≡ take l.group (rows_gathered places (aggregates_at l.shown aggregates) rows);
-}
+abbrev pub invariant-loop-group : goal.invariant-loop-group
+invariant-loop-group l = (places : Option (List ℕ)) (aggregates : List Aggregate) (rows : List (List CellValue)) → HasGroups places aggregates l.fn.self rows
+    → value_rows l.rows.items ≡ take (length l.yielded) (rows_gathered places (aggregates_at l.shown aggregates) rows)

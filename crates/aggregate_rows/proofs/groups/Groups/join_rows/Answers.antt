@@ -1,9 +1,9 @@
-use Rattle.std.proofs.Common.{◌≡◌, ◌<◌, ◌≤◌, ◌^◌, ◌++◌, Some, Result, Ok, Err, arith, length, sym, ap, subst, ◌∙◌}
+use Rattle.std.proofs.Common.{◌≡◌, ◌<◌, ◌≤◌, ◌^◌, ◌++◌, Some, Result, Ok, Err, arith, length, sym, subst, ◌∙◌}
 use Rattle.std.specs.Prelude.{OnOk}
 use Rattle.std.proofs.lemmas.List.Elements.{recursion_from_All}
 use Rattle.row_columns.specs.Picked.{numbered}
 use Rattle.aggregate_rows.specs.declared.groups.Groups.{Groups}
-use Rattle.aggregate_rows.specs.Gathered.{JoinsGroups, MayJoinGroups}
+use Rattle.aggregate_rows.specs.Gathered.{keys_held, JoinsGroups, MayJoinGroups}
 use Rattle.aggregate_rows.specs.Parts.{AreBegun, AreGroupsOf, ArePartsFrom}
 use Rattle.aggregate_rows.proofs.BegunLemmas.{all_inside, as_many_found, may_join_parts, parts_joined}
 use Rattle.aggregate_rows.proofs.PartLemmas.{within_parts}
@@ -56,11 +56,9 @@ join_parts-requires-clause-joins c =
     let may = c.requires.joins in
     let begun : AreBegun places aggregates mid may.rows (numbered numbers rows) = (rw c.in-Some.is at c.in_ok-groups.ensures.begun) may.rows may.has in
     let from : ArePartsFrom 0 numbers found parts = rw c.deref.ensures.value at c.in_ok-parts.ensures.parts in
-    let long : length parts ≡ length mid.keys.keys = c.in_ok-parts.ensures.long ∙ c.len.ensures in (
-      aggregates,
-      may_join_parts c.values_are_ordered.ensures.equal places aggregates may.rows rows numbers mid begun
-          (c.rows_are_in_groups.ensures.distinct places (may.rows ++ numbered numbers rows)) found are parts long from (length c.args.columns.now.kinds) may.fits,
-    )
+    let long : length parts ≡ length mid.rows.keys = c.in_ok-parts.ensures.long ∙ c.len.ensures in
+    may_join_parts c.values_are_ordered.ensures.equal places aggregates may.rows rows numbers mid begun
+    (c.rows_are_in_groups.ensures.distinct places (may.rows ++ numbered numbers rows)) found are parts long from (length c.args.columns.now.kinds) may.fits
 
 pub returns-in-Some : goal.returns-in-Some
 returns-in-Some c =
@@ -74,10 +72,10 @@ returns-in-Some c =
     let parts = c.in_ok-parts.parts.items in
     let are : AreGroupsOf mid places (numbered numbers rows) found = rw c.in-Some.is at c.in_ok-groups.ensures.groups in
     let from : ArePartsFrom 0 numbers found parts = rw c.deref.ensures.value at c.in_ok-parts.ensures.parts in
-    let long : length parts ≡ length mid.keys.keys = c.in_ok-parts.ensures.long ∙ c.len.ensures in
-    both_ok c.join_parts.result (new.keys ≡ mid.keys) _ (JoinsGroups (Some places) aggregates c.args.self.now new (numbered numbers rows))
+    let long : length parts ≡ length mid.rows.keys = c.in_ok-parts.ensures.long ∙ c.len.ensures in
+    both_ok c.join_parts.result (keys_held new ≡ keys_held mid) _ (JoinsGroups (Some places) aggregates c.args.self.now new (numbered numbers rows))
     (λ same joins before has. parts_joined c.values_are_ordered.ensures.equal places aggregates before rows numbers mid ((rw c.in-Some.is at c.in_ok-groups.ensures.begun) before has)
-    (c.rows_are_in_groups.ensures.distinct places (before ++ numbered numbers rows)) found are parts long from new (ap (λ keys. keys.keys) same) (joins aggregates))
+    (c.rows_are_in_groups.ensures.distinct places (before ++ numbered numbers rows)) found are parts long from new same joins)
     c.join_parts.ensures.keys c.join_parts.ensures.joins
 
 pub join_each_row-requires-clause-joins : goal.join_each_row-requires-clause-joins

@@ -1,0 +1,4 @@
+pub mod ListLaws
+pub mod KeptLaws
+pub mod CodeLaws
+mod CodeLemmas
