@@ -1,5 +1,4 @@
 pub mod TypedColumnLemmas
 mod RangeLemmas
-mod AppendLemmas
 mod BlockLemmas
 pub mod PartLemmas

@@ -24,10 +24,6 @@ AreBlocks size [] = Unit {0}
 AreBlocks size (last ∷ []) = (0 < length last) × (length last ≤ size)
 AreBlocks size (block ∷ next ∷ blocks) = (length block ≡ size) × AreBlocks size (next ∷ blocks)
 
--- `size` cells fill their blocks
-abbrev pub AreWholeBlocks : ℕ → Type 0
-AreWholeBlocks size = (count : ℕ) × (size ≡ count * BLOCK_ROWS)
-
 -- the cells of each block
 abbrev pub cells_of_each : List ColumnCells → List (List CellValue)
 cells_of_each blocks = map (λ (block : ColumnCells). block.cells) blocks

@@ -4,7 +4,7 @@ ghost use Rattle.std.specs.Option.{option_copied};
 ghost use Rattle.block_summary.specs.Ranges.{IsRangeOf};
 ghost use Rattle.block_summary.specs.declared.block.TheConstants.{BLOCK_ROWS};
 ghost use Rattle.cell_types.specs.Value.{null, value_view};
-ghost use Rattle.column_blocks.specs.TypedColumn.{block_in, cells_of_numbers, cells_of_texts, AreWholeBlocks};
+ghost use Rattle.column_blocks.specs.TypedColumn.{block_in, cells_of_numbers, cells_of_texts};
 
 use crate::block_cells::BlockCells;
 use block_summary::{BLOCK_ROWS, PackedColumn, Range};
@@ -38,17 +38,6 @@ impl Model for TypedColumn {
 }
 
 impl TypedColumn {
-    /// Puts the cells of another column after these, which fill their blocks.
-    pub fn append(&mut self, after: TypedColumn) -> Result<(), AllocError>
-        requires kind { after.kind ≡ self.old.kind }
-        requires whole { AreWholeBlocks (length self.old.cells) }
-        ensures { OnOk result
-            (self.new ≡ record self.old { cells = self.old.cells ++ after.cells }) }
-    {
-        let mut blocks = after.blocks;
-        self.blocks.append(&mut blocks)
-    }
-
     /// Returns the value of a row; null past the end.
     pub fn value(&self, row: usize) -> Value<'_>
         ensures { value_view result ≡ slice_index_or self.now.cells row null }

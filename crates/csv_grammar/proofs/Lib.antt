@@ -6,4 +6,10 @@ pub mod ReadsBack
 pub mod Viable
 pub mod Structure
 pub mod Following
+pub mod BehindLines
+pub mod AfterLines
+pub mod LineExamples
+pub mod Utf8Pieces
+pub mod Windows
+pub mod FaultStays
 pub mod Examples

@@ -132,7 +132,7 @@ last_run ls fs q behind long =
 -- ---- a text
 
 -- lines after lines
-lines_run : (before lines : List Line) → AllByRecursion (λ line. IsRecord line.fields) lines
+pub lines_run : (before lines : List Line) → AllByRecursion (λ line. IsRecord line.fields) lines
     → run (progress_at before [] start) (flat_map print_line lines) ≡ Some (progress_at (before ++ lines) [] start)
 lines_run before [] valid = rw (append-nil before) refl
 lines_run before (line ∷ lines) valid =

@@ -6,3 +6,4 @@ pub mod Files
 pub mod Structure
 pub mod Following
 pub mod Laws
+pub mod Pieces

@@ -4,6 +4,7 @@
 #![tactic(auto)]
 
 ghost use Rattle.csv_grammar.specs.Laws.{OneListOfRecords, RecordsOrFault, OneFault, OneTable, OneFileFault, OneStructure, TableOrFault, WhatFollows};
+ghost use Rattle.csv_grammar.specs.Pieces.{InWindows};
 
 mod files;
 
@@ -44,6 +45,11 @@ pub fn one_structure()
 #[inline(always)]
 pub fn what_follows()
     ensures { WhatFollows }
+{}
+
+/// What follows the first lines of a file, read after another line as a file of its own, says what the whole file is.
+pub fn in_windows()
+    ensures { InWindows }
 {}
 
 /// A file is a table, or something is wrong with it.

@@ -7,16 +7,8 @@ use Rattle.std.proofs.lemmas.Option.{same_Some, slice_get_within}
 use Rattle.csv_grammar.proofs.ListLaws.{slice_get-take}
 use Rattle.csv_index.specs.Blocks.{block_places, rank, AreRanked}
 use Rattle.csv_index.proofs.CellLemmas.{slice_get-front, slice_get-behind}
-use Rattle.csv_index.proofs.PartPlaces.{take_front}
 
--- what stands before a group is in the blocks before it
-rank_front : (masks : List ℕ) (number mask at : ℕ) → number ≤ length masks → at ≤ number → rank (take number masks ++ mask ∷ []) at ≡ rank masks at
-rank_front masks number mask at within less =
-    let most : at ≤ length (take number masks) = omega (arith, length-take number masks) in
-    let whole : number ≡ at + (number - at) = omega arith in
-    ap (λ bs. length (block_places 0 bs)) (take-append-le at (take number masks) (mask ∷ []) most ∙ ap (λ k. take at (take k masks)) whole ∙ take_front at (number - at) masks)
-
--- the same, with a block after all
+-- what stands before a group is in the blocks before it, also with a block after all
 rank_more : (masks : List ℕ) (mask at : ℕ) → at ≤ length masks → rank (masks ++ mask ∷ []) at ≡ rank masks at
 rank_more masks mask at less = ap (λ bs. length (block_places 0 bs)) (take-append-le at masks (mask ∷ []) less)
 
@@ -53,17 +45,3 @@ ranked_group masks before mask places ranked none count =
         let is : places ≡ p = same_Some places p (sym (slice_get-behind before (places ∷ []) group 0 (omega (arith, here))) ∙ e) in
         let last : 16 * group ≡ length masks = omega (arith, here, ranked.least, ranked.most, none) in
         sym is ∙ count ∙ sym (rank_more masks mask (16 * group) (omega (arith, last)) ∙ ap (λ bs. length (block_places 0 bs)) (take_all (16 * group) masks (omega (arith, last))))
-
--- the first blocks, with another mask in the place of the last
-pub ranked_first : (masks before : List ℕ) (number mask : ℕ) → AreRanked masks before → number < length masks
-    → AreRanked (take number masks ++ mask ∷ []) (take (number / 16 + 1) before)
-ranked_first masks before number mask ranked within =
-    let size : length (take number masks ++ mask ∷ []) ≡ number + 1 = omega (arith, length-append (take number masks) (mask ∷ []), length-take number masks) in
-    let groups : length (take (number / 16 + 1) before) ≡ number / 16 + 1 = omega (arith, length-take (number / 16 + 1) before, ranked.most, within) in record {
-      least = omega (arith, size, groups);
-      most = omega (arith, size, groups);
-      each = λ group places e.
-          let inside : group < number / 16 + 1 = omega (arith, slice_get_within (take (number / 16 + 1) before) group places e, groups) in
-          ranked.each group places (sym (slice_get-take (number / 16 + 1) before group inside) ∙ e)
-          ∙ sym (rank_front masks number mask (16 * group) (omega (arith, within)) (omega (arith, inside)));
-    }

@@ -19,4 +19,3 @@ pub mod Tables
 pub mod FindLemmas
 pub mod PartLemmas
 pub mod PartPlaces
-pub mod FirstRows

@@ -31,10 +31,6 @@ pub record HasRoomFor (bytes : ℕ) (blocks : ByteBlocks) : Type 0 where
   pub masks : bytes ≤ 64 * vec_capacity blocks.masks
   pub before : bytes ≤ 1024 * vec_capacity blocks.before
 
--- a mask without its places past a bit
-abbrev pub cut_mask : ℕ → ℕ → ℕ
-cut_mask mask bit = bit_and mask ((2 ^ 64 - 1) / 2 ^ (63 - bit))
-
 -- the bit of the block of that number is the structural place number n: n places come before it, and these after
 pub record Stands (masks : List ℕ) (n number bit : ℕ) : Type 0 where
   pub mask : ℕ

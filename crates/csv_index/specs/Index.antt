@@ -68,14 +68,6 @@ pub record FitsFile (places : Places) (bytes : List ℕ) : Type 0 where
   pub boundary : IsCharBoundary bytes places.start
   pub ascii : AreAscii bytes places.ends
 
--- the places of the header and of the first `rows` rows
-abbrev pub first_places : ℕ → Places → Places
-first_places rows places = record places { rows = rows; ends = take ((rows + 1) * places.width) places.ends }
-
--- the bytes of these: up to where the row after them begins
-abbrev pub first_bytes : ℕ → Places → List ℕ → List ℕ
-first_bytes rows places bytes = take (start_at places.start places.ends ((rows + 1) * places.width)) bytes
-
 -- the bytes are a table, and the places are those of its fields
 pub record IsIndexOf (places : Places) (bytes : List ℕ) : Type 0 where
   pub table : IsRawTable bytes (table_in places bytes)

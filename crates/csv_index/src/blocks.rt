@@ -3,7 +3,7 @@
 //! few masks and one [`select`], and no list of places is kept.
 ghost use Rattle.std.specs.Prelude.{◌≡◌, ◌≤◌, ◌<◌, ◌+◌, ◌*◌, ◌++◌, ℕ, [], ◌∷◌, IfOk, MatchOption, length, slice_index, take};
 ghost use Rattle.std.specs.Vec.{vec_len};
-ghost use Rattle.csv_index.specs.Blocks.{block_places, cut_mask, AreRanked, HasRoomFor, Stands};
+ghost use Rattle.csv_index.specs.Blocks.{block_places, AreRanked, HasRoomFor, Stands};
 
 use lane_class::BLOCK;
 use quote_parity::select;
@@ -50,23 +50,6 @@ impl ByteBlocks {
             self.before.push_reserved(before);
         }
         self.masks.push_reserved(mask);
-    }
-
-    /// Keeps the blocks up to the one of a number, and the places of that one up to a bit. Frees the others.
-    pub fn truncate(&mut self, number: usize, bit: u32)
-        requires number { number < length self.old.masks.items }
-        requires bit { bit < 64 }
-        requires ranked { AreRanked self.old.masks.items self.old.before.items }
-        ensures masks { self.new.masks.items ≡ take number self.old.masks.items
-            ++ cut_mask (slice_index self.old.masks.items number) bit ∷ [] }
-        ensures ranked { AreRanked self.new.masks.items self.new.before.items }
-    {
-        let last = self.masks[number] & (u64::MAX >> (63 - bit));
-        self.masks.truncate(number);
-        self.masks.push_reserved(last);
-        self.masks.shrink_to_fit();
-        self.before.truncate(number / GROUP + 1);
-        self.before.shrink_to_fit();
     }
 
     /// Returns the structural place of number `n`, counted from 0: the number of its block, and its bit there.

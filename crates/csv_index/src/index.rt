@@ -2,7 +2,7 @@
 ghost use Rattle.std.specs.Prelude.{◌≡◌, ◌≤◌, ◌<◌, ◌+◌, ◌*◌, Some, IfOk, IfErr, IsUtf8, slice_get, length, drop};
 ghost use Rattle.std.specs.Str.{IsCharBoundary};
 ghost use Rattle.csv_fields.specs.Raw.{raw_view};
-ghost use Rattle.csv_index.specs.Index.{FitsFile, IsIndexOf, first_bytes, first_places, table_in, row_fields, raws, start_at};
+ghost use Rattle.csv_index.specs.Index.{FitsFile, IsIndexOf, table_in, row_fields, raws, start_at};
 ghost use Rattle.csv_fields.specs.Rows.{cell_at};
 ghost use Rattle.csv_grammar.specs.Files.{text_of};
 ghost use Rattle.csv_index.specs.Fault.{IsTextFault};
@@ -180,31 +180,6 @@ impl Index {
             places,
             ends: self.ends_behind(before),
         })
-    }
-
-    /// Returns the header and the first `rows` records after it, as they are in the bytes, which are those of `build`.
-    pub(crate) fn front<'a>(&self, bytes: &'a str, rows: usize) -> &'a str
-        requires bytes { FitsFile self.now bytes.now }
-        requires rows { rows < self.now.rows }
-        ensures front { result.now ≡ first_bytes rows self.now bytes.now }
-        ensures boundary { IsCharBoundary bytes.now (length result.now) }
-    {
-        let width = self.width;
-        &bytes[..self.start_of((rows + 1) * width)]
-    }
-
-    /// Keeps the places of the header and of the first `rows` records after it, and frees the others.
-    pub(crate) fn truncate(&mut self, rows: usize)
-        requires width { 0 < self.old.width }
-        requires rows { (rows + 1) * self.old.width < length self.old.ends }
-        ensures { self.new ≡ first_places rows self.old }
-    {
-        let Some((number, bit)) = self.blocks.find((rows + 1) * self.width - 1) else {
-            unreachable!();
-        };
-        self.blocks.truncate(number, bit);
-        self.last = None;
-        self.rows = rows;
     }
 
     /// Returns the field of that number, the header's first and then record after record.

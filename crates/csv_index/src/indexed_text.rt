@@ -107,17 +107,4 @@ impl IndexedText {
     {
         self.index.parts(alloc, self.text.as_str(), row)
     }
-
-    /// Keeps the first `rows` rows, and frees the text and the places of the others.
-    pub fn truncate(&mut self, rows: usize)
-        ensures { self.new ≡ record self.old { rows = take rows self.old.rows } }
-    {
-        if rows >= self.index.rows() {
-            return;
-        }
-        let end = self.index.front(self.text.as_str(), rows).len();
-        self.text.truncate(end);
-        self.text.shrink_to_fit();
-        self.index.truncate(rows);
-    }
 }

@@ -1,13 +1,10 @@
--- What is read of a file, and the files of schemas.
+-- What is read of a file.
 use Rattle.std.proofs.Common.{◌≡◌, ◌≤◌, ◌<◌, ◌+◌, ◌⊎◌, ℕ, List, [], ◌∷◌, ◌++◌, length, take, Option, Some, None, sym, ap, subst, ◌∙◌, inl, inr, append-nil, arith}
 use Rattle.std.specs.Prelude.{IfSome}
 use Rattle.std.specs.Io.KnownBytes.{Consumes, IsAtEnd}
 use Rattle.std.proofs.Math.Nat.{eq-or-lt_of_le}
 use Rattle.std.proofs.Math.Seq.{take-append-add, take-append_seam}
 use Rattle.std.proofs.lemmas.List.{append_assoc, take-take, take-append-le, take_all}
-use Rattle.csvw_meta.specs.Schema.{SchemaOf}
-use Rattle.table_store.specs.File.{FileOf}
-use Rattle.served_folders.specs.Disk.{AreFilesOf}
 
 -- bytes that are read after others are written over the room there
 pub read_over : (old now room post rest new : List ℕ) (start count long : ℕ) → start ≡ length old → take start now ≡ old → count ≤ length room
@@ -55,12 +52,4 @@ front_read (Some all) (Some xs) bytes most h short over =
       | inr full ↦
           let long : most ≡ length bytes = omega arith in
           sym (ap (take most) h ∙ ap (λ (n : ℕ). take n (bytes ++ xs)) long ∙ take-append_seam bytes xs)
-    ]
-
-pub joined : (xs ys : List SchemaOf) (fs gs : List FileOf) → AreFilesOf xs fs → AreFilesOf ys gs → AreFilesOf (xs ++ ys) (fs ++ gs)
-joined [] ys fs gs h k = subst (λ (files : List FileOf). AreFilesOf ys (files ++ gs)) (sym h) k
-joined (schema ∷ xs) ys fs gs h k =
-    elim h [
-      | inl missing ↦ inl (joined xs ys fs gs missing k)
-      | inr found ↦ inr (found.0, found.1 ++ gs, ap (λ (files : List FileOf). files ++ gs) found.2, found.3, joined xs ys found.1 gs found.4 k)
     ]

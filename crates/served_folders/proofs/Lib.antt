@@ -1,5 +1,4 @@
 pub mod DiskLemmas
 pub mod Disks
 pub mod FolderLemmas
-pub mod SizeLemmas
-pub mod TakingLemmas
+pub mod FolderWith

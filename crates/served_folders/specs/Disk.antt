@@ -1,12 +1,7 @@
 -- What is taken of a folder on a disk.
-use Rattle.std.specs.Prelude.{◌≡◌, ◌≤◌, ◌+◌, ◌⊎◌, ℕ, Bool, false, List, [], ◌∷◌, ◌++◌, length, take, Option, IfSome, Result, Ok, Err}
+use Rattle.std.specs.Prelude.{◌≡◌, ◌≤◌, ◌+◌, ◌⊎◌, ℕ, Bool, false, List, ◌++◌, length, take, Option, IfSome}
 use Rattle.std.specs.Io.KnownBytes.{Consumes, IsAtEnd}
 use Rattle.csvw_meta.specs.declared.limits.TheConstants.{MOST_FILE_BYTES}
-use Rattle.csvw_meta.specs.Document.{schemas_of}
-use Rattle.csvw_meta.specs.Fault.{MetaCause}
-use Rattle.csvw_meta.specs.Schema.{SchemaOf}
-use Rattle.table_store.specs.File.{FileOf}
-use Rattle.served_folders.specs.Folders.{greatest_limits}
 use Rattle.served_folders.specs.Names.{file_names}
 
 -- the bytes are those that a file has left, at most one above the limit of a file, where it tells what it has
@@ -25,27 +20,6 @@ pub record HasReadOn (old_left new_left : Option (List ℕ)) (old new : List ℕ
 pub record IsFrontOfSome {F : Type 0} (told : F → Option (List ℕ)) (bytes : List ℕ) : Type 0 where
   pub file : F
   pub front : IsFrontOfFile (told file) bytes
-
--- the file of a schema, at most one byte above the limit of a file
-pub record IsFileOf (schema : SchemaOf) (file : FileOf) : Type 0 where
-  pub name : file.name ≡ schema.url
-  pub most : length file.bytes ≤ MOST_FILE_BYTES + 1
-
--- files of schemas, in order, but those that are missing; there is no other file
-abbrev pub AreFilesOf : List SchemaOf → List FileOf → Type 0
-AreFilesOf [] files = files ≡ []
-AreFilesOf (schema ∷ schemas) files =
-    AreFilesOf schemas files
-    ⊎ ((file : FileOf) × (more : List FileOf) × (files ≡ file ∷ more) × IsFileOf schema file × AreFilesOf schemas more)
-
--- the files of the schemas that metadata has; there is none where it is refused
-abbrev pub AreFilesIn : Result (List SchemaOf) MetaCause → List FileOf → Type 0
-AreFilesIn (Ok schemas) files = AreFilesOf schemas files
-AreFilesIn (Err cause) files = files ≡ []
-
--- metadata, at most one byte above the limit of a file, and the files that it names
-abbrev pub AreTaken : List ℕ → List FileOf → Type 0
-AreTaken meta files = (length meta ≤ MOST_FILE_BYTES + 1) × AreFilesIn (schemas_of greatest_limits meta) files
 
 -- the names of the files that some metadata names, of at most one byte above the limit of a file
 pub record AreFileNames (names : List (List ℕ)) : Type 0 where

@@ -1,9 +1,6 @@
 pub mod Folders
-pub mod Taking
-pub mod Taken
 pub mod Steps
 pub mod Loads
 pub mod Disk
 pub mod Names
-pub mod Sizes
 pub mod Laws

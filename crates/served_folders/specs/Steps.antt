@@ -1,31 +1,40 @@
 -- How a step of the loading of a folder of a disk ends.
-use Rattle.std.specs.Prelude.{◌≡◌, ◌<◌, ◌⊎◌, ℕ, None}
-use Rattle.table_store.specs.FolderSteps.{steps_left}
+use Rattle.std.specs.Prelude.{◌≡◌, ◌<◌, ◌≤◌, ℕ, [], None}
+use Rattle.csvw_meta.specs.declared.limits.TheConstants.{MOST_FILE_BYTES}
+use Rattle.table_store.specs.Catalog.{FolderOf}
+use Rattle.table_store.specs.FolderSteps.{steps_left, Loads}
+use Rattle.table_store.specs.declared.file.FileStart.{FileStart}
+use Rattle.table_store.specs.declared.file.FileStart.TheVariants.{Missing, TooLarge, Begins}
+use Rattle.table_store.specs.declared.folder_loading.Loaded.{Loaded}
+use Rattle.table_store.specs.declared.folder_loading.Loaded.TheVariants as tables
+use Rattle.table_store.specs.declared.folder_loading.Loading.{Loading}
 use Rattle.served_folders.specs.declared.disk_loading.DiskLoaded.{DiskLoaded}
 use Rattle.served_folders.specs.declared.disk_loading.DiskLoaded.TheVariants as disk
-use Rattle.served_folders.specs.declared.disk_loading.Stage.{Stage}
-use Rattle.served_folders.specs.declared.disk_loading.Stage.TheVariants.{Files, Tables}
-use Rattle.served_folders.specs.declared.disk_loading.TablesLoaded.{TablesLoaded}
-use Rattle.served_folders.specs.declared.disk_loading.TablesLoaded.TheVariants as tables
-use Rattle.served_folders.specs.Folders.{MeansTaken}
-use Rattle.served_folders.specs.Taken.{IsLoadingTaken, StepsLeft}
-use Rattle.served_folders.specs.Taking.{pieces_left, IsTaking}
+use Rattle.served_folders.specs.declared.disk_loading.StateStep.{StateStep}
+use Rattle.served_folders.specs.declared.disk_loading.StateStep.TheVariants.{On, Over}
+use Rattle.served_folders.specs.Folders.{greatest_limits, MeansTaken}
 
--- fewer are left: of files, or of tables when there are no fewer of files
-abbrev pub HasFewer : StepsLeft → StepsLeft → Type 0
-HasFewer new old = (new.files < old.files) ⊎ ((new.files ≡ old.files) × (new.tables < old.tables))
+-- some folder under the greatest limits is loaded
+pub record IsLoadingTaken (loading : Loading) : Type 0 where
+  pub folder : FolderOf
+  pub limits : folder.limits ≡ greatest_limits
+  pub loads : Loads folder loading
+
+-- that is a file of `length` bytes, none of which is read
+abbrev pub IsUnread : ℕ → FileStart → Type 0
+IsUnread length Missing = ⊥
+IsUnread length TooLarge = MOST_FILE_BYTES < length
+IsUnread length (Begins bytes) = (length ≤ MOST_FILE_BYTES) × (bytes.items ≡ [])
 
 -- fewer steps are left, or some folder means these tables
-abbrev pub DiskGoesOn : {F : Type 0} → StepsLeft → DiskLoaded F → Type 0
-DiskGoesOn left (disk.On loading) = HasFewer loading left
-DiskGoesOn left (disk.Over catalog) = MeansTaken None catalog
-
--- fewer steps than these are left in which files are taken, or all are taken and their tables are read
-abbrev pub FilesGoOn : {F : Type 0} → ℕ → Stage F → Type 0
-FilesGoOn left (Files taking) = IsTaking taking × (pieces_left taking < left)
-FilesGoOn left (Tables tables) = IsLoadingTaken tables.loading
-
--- fewer steps of tables are left, or some folder means these
-abbrev pub TablesGoOn : ℕ → TablesLoaded → Type 0
-TablesGoOn left (tables.On on) = IsLoadingTaken on.loading × (steps_left on.loading < left)
+abbrev pub TablesGoOn : ℕ → Loaded → Type 0
+TablesGoOn left (tables.On loading) = IsLoadingTaken loading × (steps_left loading < left)
 TablesGoOn left (tables.Over catalog) = MeansTaken None catalog
+
+abbrev pub StateGoesOn : {F : Type 0} → ℕ → StateStep F → Type 0
+StateGoesOn left (On state) = IsLoadingTaken state.loading × (steps_left state.loading < left)
+StateGoesOn left (Over catalog) = MeansTaken None catalog
+
+abbrev pub DiskGoesOn : {F : Type 0} → ℕ → DiskLoaded F → Type 0
+DiskGoesOn left (disk.On loading) = loading < left
+DiskGoesOn left (disk.Over catalog) = MeansTaken None catalog

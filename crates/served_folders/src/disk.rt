@@ -1,15 +1,14 @@
 //! Folders on a disk, by their paths.
 ghost use Rattle.std.specs.Prelude.{◌≡◌, ⊤, None, Err, IfErr, IfOk, map, string_bytes};
 ghost use Rattle.served_folders.specs.Disk.{AreFileNames};
-ghost use Rattle.served_folders.specs.Folders.{folder_cause, CountsFolderFault, CountsUp, IsRefusalOf, MeansTaken, unasked};
-ghost use Rattle.served_folders.specs.Steps.{DiskGoesOn, FilesGoOn};
-ghost use Rattle.served_folders.specs.Taking.{pieces_left, IsTaking};
+ghost use Rattle.served_folders.specs.Folders.{CountsFolderFault, CountsUp, IsRefusalOf, MeansTaken, unasked};
+ghost use Rattle.served_folders.specs.Steps.{DiskGoesOn, IsLoadingTaken};
 
-use crate::disk_loading::{DiskLoaded, DiskLoading, Stage, Tables, TablesLoaded};
+use crate::disk_loading::{DiskLoaded, DiskLoading, State, StateStep};
 use crate::folders::{FolderFault, Folders};
 use crate::names::names_of;
-use crate::taken::{TakeFault, begin_taking, take_metadata};
-use crate::taking::{Step, Taking};
+use crate::some_folder;
+use crate::taken::{look_at, take_metadata};
 use std::alloc::Global;
 use std::rt::Files;
 use table_store::Catalog;
@@ -48,21 +47,40 @@ impl<'a, R: Files> Disk<'a, R> {
         self
     }
 
-    /// Counts a device that failed. Returns the fault of the load.
-    fn counted(&mut self, fault: TakeFault) -> FolderFault
-        ensures cause { folder_cause result ≡ None }
+    /// Counts a fault of a load, if it is one that is counted.
+    fn count(&mut self, fault: &FolderFault)
         ensures load { (⟦<Disk<'a, R> as Folders>⟧.folders self.new).loads
             ≡ (⟦<Disk<'a, R> as Folders>⟧.folders self.old).loads }
         ensures counts { CountsFolderFault {X = ⊤} (⟦<Disk<'a, R> as Folders>⟧.folders self.old)
-            (⟦<Disk<'a, R> as Folders>⟧.folders self.new) (Err result) }
+            (⟦<Disk<'a, R> as Folders>⟧.folders self.new) (Err fault.now) }
     {
         match fault {
-            TakeFault::Device => {
-                self.device = self.device.saturating_add(1);
-                FolderFault::Device
-            }
-            TakeFault::NoMemory => FolderFault::NoMemory,
+            FolderFault::NoMetadata => self.no_metadata = self.no_metadata.saturating_add(1),
+            FolderFault::Device => self.device = self.device.saturating_add(1),
+            _ => {}
         }
+    }
+
+    /// Reads the metadata of the folder at that path, and looks at the files of its tables.
+    fn start(&self, alloc: Global, name: &str) -> Result<State<R::File>, FolderFault>
+        ensures loads { IfOk result (λ state. IsLoadingTaken state.loading) }
+        ensures fault { IfErr result (IsRefusalOf None) }
+    {
+        // the empty name is that of no folder, and not of the root of all
+        if name.is_empty() {
+            return Err(FolderFault::NoMetadata);
+        }
+        let Some(meta) = take_metadata(alloc, self.files, self.follows, name)? else {
+            return Err(FolderFault::NoMetadata);
+        };
+        let names = names_of(alloc, meta.as_slice())?;
+        look_at(alloc, self.files, self.follows, name, names.as_slice())?;
+        Ok(State {
+            folder: String::from_str(alloc, name)?,
+            loading: some_folder::start(alloc, meta)?,
+            file: None,
+            piece: Vec::new(alloc),
+        })
     }
 
     /// Begins to load the folder at that path: reads its metadata, and looks at the files of its tables.
@@ -74,40 +92,16 @@ impl<'a, R: Files> Disk<'a, R> {
             (⟦<Disk<'a, R> as Folders>⟧.folders self.new) result }
     {
         self.loads = self.loads.saturating_add(1);
-        match begin_taking(alloc, self.files, self.follows, name) {
-            Ok(Some(taking)) => Ok(DiskLoading {
-                stage: Stage::Files(taking),
-            }),
-            Ok(None) => {
-                self.no_metadata = self.no_metadata.saturating_add(1);
-                Err(FolderFault::NoMetadata)
+        match self.start(alloc, name) {
+            Ok(state) => Ok(DiskLoading { state }),
+            Err(fault) => {
+                self.count(&fault);
+                Err(fault)
             }
-            Err(fault) => Err(self.counted(fault)),
         }
     }
 
-    /// Opens a file, or reads a piece of one. Begins to load the tables once all files are read.
-    fn take_on(
-        &mut self,
-        alloc: Global,
-        taking: Taking<R::File>,
-    ) -> Result<Stage<R::File>, FolderFault>
-        requires { IsTaking taking }
-        ensures goes_on { IfOk result (FilesGoOn (pieces_left taking)) }
-        ensures fault { IfErr result (IsRefusalOf None) }
-        ensures load { (⟦<Disk<'a, R> as Folders>⟧.folders self.new).loads
-            ≡ (⟦<Disk<'a, R> as Folders>⟧.folders self.old).loads }
-        ensures counts { CountsFolderFault (⟦<Disk<'a, R> as Folders>⟧.folders self.old)
-            (⟦<Disk<'a, R> as Folders>⟧.folders self.new) result }
-    {
-        match taking.step(alloc, self.files, self.follows) {
-            Ok(Step::On(taking)) => Ok(Stage::Files(taking)),
-            Ok(Step::Over(taken)) => Ok(Stage::Tables(Tables::start(alloc, taken)?)),
-            Err(fault) => Err(self.counted(fault)),
-        }
-    }
-
-    /// Takes one step of a load: opens a file, reads a piece of one, or goes on with a table. Returns the catalog once all tables are read.
+    /// Takes one step of a load: opens the file of a table, reads a piece of it, or goes on with the table. Returns the catalog once all tables are read.
     pub fn step(
         &mut self,
         alloc: Global,
@@ -120,17 +114,13 @@ impl<'a, R: Files> Disk<'a, R> {
         ensures counts { CountsFolderFault (⟦<Disk<'a, R> as Folders>⟧.folders self.old)
             (⟦<Disk<'a, R> as Folders>⟧.folders self.new) result }
     {
-        match loading.stage {
-            Stage::Files(taking) => {
-                let stage = self.take_on(alloc, taking)?;
-                Ok(DiskLoaded::On(DiskLoading { stage }))
+        match loading.state.step(alloc, self.files, self.follows) {
+            Ok(StateStep::On(state)) => Ok(DiskLoaded::On(DiskLoading { state })),
+            Ok(StateStep::Over(catalog)) => Ok(DiskLoaded::Over(catalog)),
+            Err(fault) => {
+                self.count(&fault);
+                Err(fault)
             }
-            Stage::Tables(tables) => match tables.step(alloc)? {
-                TablesLoaded::On(tables) => Ok(DiskLoaded::On(DiskLoading {
-                    stage: Stage::Tables(tables),
-                })),
-                TablesLoaded::Over(catalog) => Ok(DiskLoaded::Over(catalog)),
-            },
         }
     }
 
@@ -147,11 +137,12 @@ impl<'a, R: Files> Disk<'a, R> {
         ensures counts { CountsFolderFault (⟦<Disk<'a, R> as Folders>⟧.folders self.old)
             (⟦<Disk<'a, R> as Folders>⟧.folders self.new) result }
     {
-        let mut stage = loading.stage;
+        let mut loading = loading;
         loop {
-            match stage {
-                Stage::Files(taking) => stage = self.take_on(alloc, taking)?,
-                Stage::Tables(tables) => return Ok(tables.finish(alloc)?),
+            match self.step(alloc, loading) {
+                Ok(DiskLoaded::On(on)) => loading = on,
+                Ok(DiskLoaded::Over(catalog)) => return Ok(catalog),
+                Err(fault) => return Err(fault),
             }
         }
     }
@@ -163,8 +154,7 @@ impl<'a, R: Files> Disk<'a, R> {
         match take_metadata(alloc, self.files, self.follows, folder) {
             Ok(Some(meta)) => Ok(names_of(alloc, meta.as_slice())?),
             Ok(None) => Err(FolderFault::NoMetadata),
-            Err(TakeFault::Device) => Err(FolderFault::Device),
-            Err(TakeFault::NoMemory) => Err(FolderFault::NoMemory),
+            Err(fault) => Err(fault),
         }
     }
 }

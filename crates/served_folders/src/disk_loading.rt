@@ -1,49 +1,47 @@
-//! A folder of a disk that is loaded in steps: its files are taken piece by piece, and then its tables are read, some rows at a time.
-ghost use Rattle.std.specs.Prelude.{None, IfErr, IfOk, IfSome};
-ghost use Rattle.table_store.specs.Fault.{load_cause};
-ghost use Rattle.table_store.specs.FolderSteps.{steps_left};
-ghost use Rattle.served_folders.specs.Folders.{MeansTaken, RefusesTaken};
-ghost use Rattle.served_folders.specs.Steps.{TablesGoOn};
-ghost use Rattle.served_folders.specs.Taken.{IsLoadingTaken};
+//! A folder of a disk that is loaded in steps: of each of its tables in turn the file is opened, read piece by piece, and then the keys of its rows.
+ghost use Rattle.std.specs.Prelude.{◌≡◌, ◌≢◌, ◌<◌, None, Ok, IfErr, IfOk, IsErrAnd, IsSome};
+ghost use Rattle.std.specs.IoError.{error_kind};
+ghost use Rattle.table_store.specs.FolderSteps.{next_url, steps_left, waiting_url};
+ghost use Rattle.served_folders.specs.Folders.{IsRefusalOf};
+ghost use Rattle.served_folders.specs.Steps.{IsLoadingTaken, IsUnread, StateGoesOn};
 
-use crate::sizes::sized_fault;
-use crate::taking::{Taken, Taking};
-use csvw_meta::Limits;
+use crate::folders::FolderFault;
+use crate::plain::{is_too_large, open_plain, read_piece};
+use crate::some_folder;
+use crate::taken::device_fault;
 use std::alloc::Global;
+use std::io::{self, ErrorKind, Read};
 use std::marker::Model;
-use table_store::{Catalog, LoadFault, Loaded, Loading};
+use std::rt::Files;
+use table_store::{Catalog, FileStart, Loaded, Loading};
 
-/// The tables of a folder of a disk that are loaded.
+/// How far the loading of a folder of a disk has come: its path, its tables, and the file of the one that is under way.
 #[derive(Drop)]
-pub(crate) struct Tables {
+pub(crate) struct State<F> {
+    pub folder: String,
     pub loading: Loading,
-    /// The url of the first table whose file is over the limit: none was read from that one on.
-    pub over: Option<String>,
+    pub file: Option<F>,
+    /// Room for a piece of the file.
+    pub piece: Vec<u8>,
 }
 
-/// How far the loading of a folder of a disk has come.
-#[derive(Drop)]
-pub(crate) enum Stage<F> {
-    /// Its files are taken.
-    Files(Taking<F>),
-    /// Its tables are read.
-    Tables(Tables),
-}
-
-/// A folder of a disk that is loaded. It is seen as two numbers, since its files are taken first: no more pieces of them are left to be read, and no more steps of its tables.
+/// A folder of a disk that is loaded. It is seen as a number: no more steps than these are left.
 #[derive(Drop)]
 pub struct DiskLoading<F> {
-    pub(crate) stage: Stage<F>,
+    pub(crate) state: State<F>,
 }
 
 impl<F> Model for DiskLoading<F> {
-    ghost use Rattle.served_folders.specs.Taken.{left_of_disk, IsStage, StepsLeft};
+    ghost use Rattle.std.specs.Prelude.{ℕ};
 
-    ghost Value = { StepsLeft };
+    ghost Value = { ℕ };
 
-    ghost view = { λ disk. left_of_disk disk.stage };
+    ghost use Rattle.table_store.specs.FolderSteps.{steps_left};
+    ghost use Rattle.served_folders.specs.Steps.{IsLoadingTaken};
 
-    ghost invariant = { λ disk. IsStage disk.stage };
+    ghost view = { λ disk. steps_left disk.state.loading };
+
+    ghost invariant = { λ disk. IsLoadingTaken disk.state.loading };
 }
 
 /// What a step of the loading of a folder of a disk leaves.
@@ -55,53 +53,135 @@ pub enum DiskLoaded<F> {
     Over(Catalog),
 }
 
-/// What a step of the loading of tables leaves.
+/// What a step of a state leaves.
 #[derive(Drop)]
-pub(crate) enum TablesLoaded {
-    On(Tables),
+pub(crate) enum StateStep<F> {
+    On(State<F>),
     Over(Catalog),
 }
 
-impl Tables {
-    /// Begins to load what was taken of a folder.
-    pub(crate) fn start(alloc: Global, taken: Taken) -> Result<Tables, LoadFault>
-        ensures loads { IfOk result (λ tables. IsLoadingTaken tables.loading) }
-        ensures fault { IfErr result (λ e. IfSome (load_cause e) (RefusesTaken None)) }
+/// Returns what there is of a file of `length` bytes before it is read.
+fn file_of(alloc: Global, length: u64) -> FileStart
+    ensures { IsUnread length result }
+{
+    if is_too_large(length) {
+        FileStart::TooLarge
+    } else {
+        FileStart::Begins(Vec::new(alloc))
+    }
+}
+
+/// Returns that there is no file if it was not opened for that `error`, and else its fault.
+fn unopened(error: &io::Error) -> Result<FileStart, FolderFault>
+    ensures missing { error_kind error.now ≡ ErrorKind.NotFound → result ≡ Ok FileStart.Missing }
+    ensures fault { error_kind error.now ≢ ErrorKind.NotFound → IsErrAnd result (IsRefusalOf None) }
+{
+    match error.kind() {
+        ErrorKind::NotFound => Ok(FileStart::Missing),
+        _ => Err(device_fault(error)),
+    }
+}
+
+impl<F: Read + Drop> State<F> {
+    /// Opens the file of the next table.
+    fn open_next<R: Files<File = F>>(
+        self,
+        alloc: Global,
+        files: &R,
+        follows: bool,
+    ) -> Result<State<F>, FolderFault>
+        requires next { IsSome (next_url self.loading) }
+        requires loads { IsLoadingTaken self.loading }
+        ensures goes_on { IfOk result (λ new. IsLoadingTaken new.loading
+            × (steps_left new.loading < steps_left self.loading)) }
+        ensures fault { IfErr result (IsRefusalOf None) }
     {
-        let Taken { meta, files, over } = taken;
-        match Loading::start(alloc, Limits::greatest(), meta, files) {
-            Ok(loading) => Ok(Tables { loading, over }),
-            Err(fault) => Err(sized_fault(fault, over)),
-        }
+        let State {
+            folder,
+            loading,
+            file,
+            piece,
+        } = self;
+        drop(file); // one file is open at a time
+        let path = {
+            let folder = folder.as_str();
+            let url = loading.next_url().unwrap_or("");
+            format!(in alloc; "{folder}/{url}")?
+        };
+        let (of, file) = match open_plain(files, path.as_str(), follows) {
+            Ok((file, length)) => (file_of(alloc, length), Some(file)),
+            Err(error) => (unopened(&error)?, None),
+        };
+        let loading = some_folder::begin(loading, of)?;
+        Ok(State {
+            folder,
+            loading,
+            file,
+            piece,
+        })
     }
 
-    /// Begins the next table, or goes on with one. Returns the catalog once all tables are read.
-    pub(crate) fn step(self, alloc: Global) -> Result<TablesLoaded, LoadFault>
-        requires { IsLoadingTaken self.loading }
-        ensures goes_on { IfOk result (TablesGoOn (steps_left self.loading)) }
-        ensures fault { IfErr result (λ e. IfSome (load_cause e) (RefusesTaken None)) }
+    /// Reads a piece of the file of the table that is under way.
+    fn read_on(self) -> Result<State<F>, FolderFault>
+        requires wants { IsSome (waiting_url self.loading) }
+        requires loads { IsLoadingTaken self.loading }
+        ensures goes_on { IfOk result (λ new. IsLoadingTaken new.loading
+            × (steps_left new.loading < steps_left self.loading)) }
+        ensures fault { IfErr result (IsRefusalOf None) }
     {
-        let Tables { loading, over } = self;
-        match loading.step(alloc) {
-            Ok(Loaded::On(loading)) => Ok(TablesLoaded::On(Tables { loading, over })),
-            Ok(Loaded::Over(catalog)) => Ok(TablesLoaded::Over(catalog)),
-            Err(fault) => Err(sized_fault(fault, over)),
-        }
-    }
-
-    /// Returns the catalog, by all steps that are left.
-    pub(crate) fn finish(self, alloc: Global) -> Result<Catalog, LoadFault>
-        requires { IsLoadingTaken self.loading }
-        ensures tables { IfOk result (MeansTaken None) }
-        ensures fault { IfErr result (λ e. IfSome (load_cause e) (RefusesTaken None)) }
-    {
-        let mut tables = self;
-        loop {
-            match tables.step(alloc) {
-                Ok(TablesLoaded::On(on)) => tables = on,
-                Ok(TablesLoaded::Over(catalog)) => return Ok(catalog),
-                Err(fault) => return Err(fault),
+        let State {
+            folder,
+            loading,
+            mut file,
+            mut piece,
+        } = self;
+        piece.clear();
+        if let Some(file) = &mut file {
+            match read_piece(file, &mut piece) {
+                Ok(_) => {}
+                Err(error) => return Err(device_fault(&error)),
             }
+        }
+        let loading = some_folder::feed(loading, piece.as_slice())?;
+        Ok(State {
+            folder,
+            loading,
+            file,
+            piece,
+        })
+    }
+
+    /// Opens the file of the next table, reads a piece of one, or goes on with its table. Returns the catalog once all tables are read.
+    pub(crate) fn step<R: Files<File = F>>(
+        self,
+        alloc: Global,
+        files: &R,
+        follows: bool,
+    ) -> Result<StateStep<F>, FolderFault>
+        requires { IsLoadingTaken self.loading }
+        ensures goes_on { IfOk result (StateGoesOn (steps_left self.loading)) }
+        ensures fault { IfErr result (IsRefusalOf None) }
+    {
+        if self.loading.next_url().is_some() {
+            return Ok(StateStep::On(self.open_next(alloc, files, follows)?));
+        }
+        if self.loading.wants() {
+            return Ok(StateStep::On(self.read_on()?));
+        }
+        let State {
+            folder,
+            loading,
+            file,
+            piece,
+        } = self;
+        match some_folder::step(loading, alloc)? {
+            Loaded::On(loading) => Ok(StateStep::On(State {
+                folder,
+                loading,
+                file,
+                piece,
+            })),
+            Loaded::Over(catalog) => Ok(StateStep::Over(catalog)),
         }
     }
 }

@@ -6,9 +6,8 @@ mod disk_loading;
 mod folders;
 mod names;
 mod plain;
-mod sizes;
+mod some_folder;
 mod taken;
-mod taking;
 
 pub use disk::Disk;
 pub use disk_loading::{DiskLoaded, DiskLoading};

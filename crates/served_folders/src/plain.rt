@@ -1,5 +1,5 @@
 //! Plain files alone are opened: the end of a FIFO, a socket or a device never comes, and a folder has no bytes.
-ghost use Rattle.std.specs.Prelude.{◌≡◌, ◌<◌, ◌≤◌, ◌+◌, ◌↔◌, [], true, length, take, IfErr, IfOk, IsOk, vec_len};
+ghost use Rattle.std.specs.Prelude.{◌≡◌, ◌<◌, ◌≤◌, ◌+◌, ◌↔◌, IsTrue, true, length, take, IfErr, IfOk, IsOk, vec_len};
 ghost use Rattle.std.specs.Io.KnownBytes.{Consumes, IsAtEnd};
 ghost use Rattle.std.specs.Fs.{IsFile, file_type};
 ghost use Rattle.std.specs.IoError.{error_kind};
@@ -38,6 +38,13 @@ pub fn look<R: Files>(files: &R, path: &str, follows: bool) -> io::Result<Metada
 pub(crate) fn plain_len<R: Files>(files: &R, path: &str, follows: bool) -> io::Result<u64> {
     let found = plain(look(files, path, follows)?)?;
     Ok(found.len())
+}
+
+/// Returns true if a file of `length` bytes is over the limit.
+pub(crate) fn is_too_large(length: u64) -> bool
+    ensures { IsTrue result ↔ (MOST_FILE_BYTES < length) }
+{
+    length > u64::from(MOST_FILE_BYTES)
 }
 
 /// Returns true if both are of one file of one device.
@@ -84,29 +91,25 @@ pub(crate) fn read_piece<F: Read>(file: &mut F, bytes: &mut Vec<u8>) -> io::Resu
     Ok(count > 0)
 }
 
-/// Opens the plain file at a path. Returns it, and room for its bytes: memory is allocated once, by the length that the system reports. A link there is followed, or is no plain
-/// file. What is none is an invalid input: it is looked at before it is opened, since opening a FIFO waits for who writes into it; and what was opened is looked at too,
-/// since another file may be there by then.
+/// Opens the plain file at a path. Returns it, and how many bytes the system reports that it has. A link there is followed, or is no plain file. What is none is an invalid
+/// input: it is looked at before it is opened, since opening a FIFO waits for who writes into it; and what was opened is looked at too, since another file may be there by
+/// then.
 pub(crate) fn open_plain<R: Files>(
-    alloc: Global,
     files: &R,
     path: &str,
     follows: bool,
-) -> io::Result<(R::File, Vec<u8>)>
-    ensures { IfOk result (λ opened. opened.1.items ≡ []) }
-{
+) -> io::Result<(R::File, u64)> {
     let found = plain(look(files, path, follows)?)?;
     let file = fs::open(files, path)?;
     let opened = plain(file.metadata()?)?;
     if !follows && !is_same(&found, &opened) {
         return Err(io::Error::from(ErrorKind::InvalidInput));
     }
-    let most = u64::from(MOST_FILE_BYTES) + 1;
-    let room = opened.len().saturating_add(1).min(most);
-    Ok((file, Vec::with_capacity(alloc, room as usize)?))
+    let length = opened.len();
+    Ok((file, length))
 }
 
-/// Returns the bytes of the plain file at a path, or one more than the limit, as it is opened by [`open_plain`].
+/// Returns the bytes of the plain file at a path, or one more than the limit, as it is opened by [`open_plain`]. Memory is allocated once, by the length that the system reports.
 pub fn read_plain<R: Files>(
     alloc: Global,
     files: &R,
@@ -117,7 +120,10 @@ pub fn read_plain<R: Files>(
     // If files report their bytes.
     ensures bytes { IfOk result (λ bytes. IsFrontOfSome R.File.remaining bytes.items) }
 {
-    let (mut file, mut bytes) = open_plain(alloc, files, path, follows)?;
+    let (mut file, length) = open_plain(files, path, follows)?;
+    let most = u64::from(MOST_FILE_BYTES) + 1;
+    let room = length.saturating_add(1).min(most);
+    let mut bytes = Vec::with_capacity(alloc, room as usize)?;
     while read_piece(&mut file, &mut bytes)? {}
     Ok(bytes)
 }

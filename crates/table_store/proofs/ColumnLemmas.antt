@@ -16,7 +16,7 @@ use Rattle.table_store.specs.Inside.{rows_of_columns, table_of}
 use Rattle.table_store.specs.Summaries.{cells_by_column}
 use Rattle.table_store.specs.Table.{TableOf}
 use Rattle.column_blocks.specs.TypedColumn.{typed_cells, AreTyped, ColumnCells}
-use Rattle.table_store.proofs.PlaceLemmas.{slice_get-from_read}
+use Rattle.file_cells.proofs.PlaceLemmas.{slice_get-from_read}
 
 -- ---- rows of columns: there are `n`
 pub length-rows_of_columns : (n : ℕ) (columns : List (List CellValue)) → length (rows_of_columns n columns) ≡ n

@@ -11,7 +11,7 @@ use Rattle.std.specs.Str.{bytes_eq}
 use Rattle.cell_types.proofs.CaseLaws.{cond_none}
 use Rattle.table_store.specs.declared.file.NamedFile.{NamedFile}
 use Rattle.table_store.specs.File.{FileOf, file_view, file_named}
-use Rattle.table_store.proofs.PlaceLemmas.{slice_get-from_read}
+use Rattle.file_cells.proofs.PlaceLemmas.{slice_get-from_read}
 
 named-first : (b : Bool) (file : NamedFile) (rest : Option NamedFile) (more : Option FileOf) → option_map (λ (f : FileOf). f.bytes) more ≡ option_map (λ f. f.bytes.items) rest
     → option_map (λ (f : FileOf). f.bytes) (cond b (Some (file_view file)) more) ≡ option_map (λ f. f.bytes.items) (cond b (Some file) rest)

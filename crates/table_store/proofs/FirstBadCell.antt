@@ -9,7 +9,7 @@ use Rattle.cell_types.specs.Column.{ColumnOf}
 use Rattle.cell_types.specs.Cell.{value_of}
 use Rattle.table_store.specs.Table.{row_then, rows_from, value_then, values_from}
 use Rattle.table_store.specs.Laws.{AreReadingsOf, FirstBadCellIsFirst, IsFirstBadCell, reading_at, readings_of}
-use Rattle.table_store.proofs.RowLemmas.{row_then-ok}
+use Rattle.file_cells.proofs.RowLemmas.{row_then-ok}
 
 abbrev Reading : Type 0
 Reading = Result CellValue CellFault

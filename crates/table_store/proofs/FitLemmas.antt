@@ -4,8 +4,8 @@ use Rattle.std.specs.List.{All, AllByRecursion, flat_map}
 use Rattle.std.proofs.lemmas.List.{length-drop, length-map}
 use Rattle.std.proofs.lemmas.List.Elements.{All-cons, All-head, All-nil, All-tail}
 use Rattle.csv_grammar.specs.Bytes.{comma, double_quote}
-use Rattle.csv_grammar.specs.Files.{IsTable, mark_len}
-use Rattle.csv_grammar.specs.Records.{Field, IsLast, Line, LineBreak, content, crlf, doubled, lf, print_break, print_field, print_last, print_line, print_record, print_text, quoted, unquoted}
+use Rattle.csv_grammar.specs.Files.{IsTable, mark_len, text_of}
+use Rattle.csv_grammar.specs.Records.{Field, IsLast, Line, LineBreak, content, crlf, doubled, lf, print_break, print_field, print_last, print_line, print_record, print_text, quoted, unquoted, AreRecords}
 use Rattle.csv_grammar.specs.Raw.{RawField, field_of, raw_content}
 use Rattle.csv_grammar.specs.Raw.{RawTable}
 use Rattle.csv_index.specs.Index.{IsRawTable}
@@ -21,6 +21,7 @@ use Rattle.csvw_meta.specs.Laws.{HasShortDefaults}
 use Rattle.csvw_meta.specs.Schema.{SchemaOf}
 use Rattle.table_store.specs.Fits.{HasTableRows, IsShortValue, IsTableRow}
 use Rattle.table_store.specs.Loading.{table_at, IsTableAt}
+use Rattle.csv_windows.proofs.CountLemmas.{rows-within}
 use Rattle.csv_fields.specs.Values.{AllHaveValues, HaveValues, rows_in, value_or_null, values_in}
 
 -- ---- no field says more than its file has
@@ -87,37 +88,6 @@ table-within bytes header rows is =
     let all = all_both (length bytes) (map (λ (line : Line). line.fields) tree.lines) (option_to_list tree.last) front behind in
     (subst (AllByRecursion (AreWithin (length bytes))) (sym is.are.are) all).1
 
--- ---- no file has more rows than bytes
-
-break-some : (end : LineBreak) → 0 < length (print_break end)
-break-some crlf = omega arith
-break-some lf = omega arith
-
--- each line has its line break
-lines-count : (lines : List Line) → length lines ≤ length (flat_map print_line lines)
-lines-count [] = omega arith
-lines-count (line ∷ lines) =
-    let size = length-append (print_line line) (flat_map print_line lines) in
-    let front = length-append (print_record line.fields) (print_break line.end) in
-    omega (arith, size, front, break-some line.end, lines-count lines)
-
--- a last record with no line break has a byte
-last-count : (last : Option (List Field)) → IfSome last IsLast → length (option_to_list last) ≤ length (print_last last)
-last-count None is = omega arith
-last-count (Some fields) is = omega (arith, is.1)
-
--- the header is one more record than the rows
-table-count : (bytes : List ℕ) (header : List Field) (rows : List (List Field)) → IsTable bytes header rows → length rows < length bytes
-table-count bytes header rows is =
-    let tree = is.are.tree in
-    let fields_of : Line → List Field = λ line. line.fields in
-    let lines = flat_map print_line tree.lines in
-    let size = length-append lines (print_last tree.last) in
-    let whole : length (print_text tree) ≤ length bytes = omega (arith, ap length is.are.printed, length-drop (mark_len bytes) bytes) in
-    let records = length-append (map fields_of tree.lines) (option_to_list tree.last) in
-    let count = length-map tree.lines fields_of in
-    omega (arith, ap length is.are.are, whole, size, records, count, lines-count tree.lines, last-count tree.last is.are.valid.last)
-
 -- ---- no value says more than its field or the default
 
 text_of_text : (d : DatatypeOf) (t : List ℕ) → IsOfDatatype d (text t) → d ≡ datatype.text
@@ -170,11 +140,6 @@ rows-fit law columns [] wide read short defaults = All-nil (IsTableRow columns)
 rows-fit law columns (fields ∷ rows) wide read short defaults =
     All-cons (IsTableRow columns) (values_in columns fields) (rows_in columns rows) (row-fits law columns fields wide.0 read.0 short.0 defaults)
     (rows-fit law columns rows wide.1 read.1 short.1 defaults)
-
--- the rows of a table whose file is short
-pub rows-within : (bytes : List ℕ) (file : RawTable) → IsRawTable bytes file → length file.rows ≤ length bytes
-rows-within bytes file is =
-    omega (arith, table-count bytes (map field_of file.header) (map (map field_of) file.rows) is.is, length-map file.rows (map field_of))
 
 pub table-fits : ValuesFitColumns → (schema : SchemaOf) (bytes : List ℕ) (file : RawTable) → length bytes ≤ 2 ^ 30 → HasShortDefaults schema
     → IsTableAt schema.columns bytes file → HasTableRows (table_at schema file)

@@ -1,10 +1,4 @@
-pub mod PlaceLemmas
-pub mod ReaderLemmas
-pub mod RowLemmas
-pub mod PartLemmas
 pub mod FitLemmas
-pub mod HeaderLemmas
-pub mod InsideLemmas
 pub mod ColumnLemmas
 pub mod BlockLemmas
 pub mod LoadingLemmas
@@ -16,7 +10,6 @@ pub mod KeysOfTables
 pub mod FirstMismatch
 pub mod FirstBadCell
 pub mod SummaryLemmas
-pub mod StretchLemmas
-pub mod StepLemmas
 pub mod StageLemmas
 pub mod FolderStepLemmas
+pub mod MemoryLemmas

@@ -1,5 +1,5 @@
 -- What the steps of reading a file show of it, by its fields as they stand.
-use Rattle.std.proofs.Common.{◌≡◌, ℕ, List, [], ◌∷◌, length, map, Option, Some, None, IfSome, option_map, Result, Ok, Err, refl, ap, sym, subst, ◌∙◌, ◌⊎◌, inl, inr}
+use Rattle.std.proofs.Common.{◌≡◌, ◌≢◌, ℕ, List, [], ◌∷◌, length, map, Option, Some, None, IfSome, option_map, Result, Ok, Err, refl, ap, sym, subst, ◌∙◌, ◌⊎◌, inl, inr}
 use Rattle.std.specs.List.{AllByRecursion}
 use Rattle.std.specs.Result.{result_err}
 use Rattle.std.proofs.lemmas.List.{length-map}
@@ -17,14 +17,19 @@ use Rattle.table_store.specs.Table.{rows_from, HasCells, HasOtherHeader, HasBadC
 use Rattle.table_store.specs.Fault.{TableCause, file_missing, file_too_large, bad_text, bad_header, bad_cell, key_null, key_twice, cell_cause}
 use Rattle.csv_fields.specs.Values.{rows_in, FitsColumns}
 use Rattle.key_index.specs.Keys.{HasKeyFault}
-use Rattle.table_store.specs.Loading.{mismatch_of, key_cause, keys_at, bad_cell_of, table_at, ArePartsOf, IsTableAt, IsTableOf, HasRowsCause, HasFileCause}
+use Rattle.file_cells.specs.declared.fault.FileFault.{FileFault}
+use Rattle.file_cells.specs.declared.fault.FileFault.TheVariants as wrong
+use Rattle.csv_index.specs.Fault.{text_cause}
+use Rattle.file_cells.specs.Reading.{IsWrongFile}
+use Rattle.file_cells.specs.Rows.{mismatch_of}
+use Rattle.table_store.specs.Loading.{file_cause, key_cause, keys_at, bad_cell_of, table_at, ArePartsOf, IsTableAt, IsTableOf, HasRowsCause, HasFileCause}
 use Rattle.key_index.specs.declared.reading.KeyedRows.{KeyedRows}
 use Rattle.table_store.specs.Catalog.{HasTable}
 use Rattle.table_store.specs.Inside.{table_of}
 use Rattle.table_store.proofs.ColumnLemmas.{typed-rows}
-use Rattle.table_store.proofs.InsideLemmas.{length-rows_in, rows-wide}
-use Rattle.table_store.proofs.RowLemmas.{rows_from-none}
-use Rattle.table_store.proofs.HeaderLemmas.{mismatch_from-length}
+use Rattle.file_cells.proofs.InsideLemmas.{length-rows_in, rows-wide}
+use Rattle.file_cells.proofs.RowLemmas.{rows_from-none}
+use Rattle.file_cells.proofs.HeaderLemmas.{header_fits}
 
 at_err : {T E : Type 0} (r : Result T E) (e : E) → result_err r ≡ Some e → r ≡ Err e
 at_err (Ok x) e h = cc
@@ -34,18 +39,6 @@ at_err (Err d) e h = let same : d ≡ e = cc in ap (λ x. Err x) same
 pub other_header : (schema : SchemaOf) (bytes : List ℕ) (file : RawTable) (col : ℕ) → IsRawTable bytes file → mismatch_of schema.columns file.header ≡ Some col
     → HasOtherHeader schema bytes col
 other_header schema bytes file col is e = record { header = map field_of file.header; records = map (map field_of) file.rows; is = is.is; first = e }
-
--- a header that does is as wide as the columns, and so is each row
-same_width : (n m : ℕ) (rows : List (List RawField)) → n ≡ m → AllByRecursion (HasWidth n) (map (map field_of) rows) → AllByRecursion (λ fields. length fields ≡ m) rows
-same_width n m [] e wide = tt
-same_width n m (fields ∷ rows) e wide = (sym (length-map fields field_of) ∙ wide.0 ∙ e, same_width n m rows e wide.1)
-
-pub header_fits : (columns : List ColumnOf) (bytes : List ℕ) (file : RawTable) → IsRawTable bytes file → mismatch_of columns file.header ≡ None → FitsColumns columns file
-header_fits columns bytes file is e =
-    let wide : length columns ≡ length (map field_of file.header) = mismatch_from-length 0 columns (map field_of file.header) e in record {
-      header = sym (length-map file.header field_of) ∙ sym wide;
-      rows = same_width (length (map field_of file.header)) (length columns) file.rows (sym wide) is.is.widths;
-    }
 
 -- a cell that has no value
 pub bad_cell_at : (schema : SchemaOf) (bytes : List ℕ) (file : RawTable) (row col : ℕ) (fault : CellFault) → IsRawTable bytes file
@@ -87,6 +80,27 @@ pub key_fault-cause : (schema : SchemaOf) (rows : List (List RawField)) (fault :
     → HasKeyFault (keys_at schema rows) fault → HasRowsCause schema rows (key_cause fault)
 key_fault-cause schema rows (Null row) none has = (none, has)
 key_fault-cause schema rows (Twice row) none has = (none, has.0, has.1)
+
+-- what is first wrong with the file before its keys
+pub file_wrong : (schema : SchemaOf) (bytes : List ℕ) (fault : FileFault) → IsWrongFile schema.columns bytes fault → IfSome (file_cause fault) (HasFileCause schema bytes)
+file_wrong schema bytes (wrong.Text fault) is = subst (λ cause. IfSome (option_map bad_text cause) (HasFileCause schema bytes)) (sym is.1) is.2
+file_wrong schema bytes (wrong.Header col) is = other_header schema bytes is.0 col is.1 is.2
+file_wrong schema bytes (wrong.Cell bad) is =
+    IfSome-map (cell_cause bad.fault) (bad_cell bad.row bad.col) (λ f. bad_cell_of schema is.0.rows ≡ Some (bad.row, bad.col, f)) (HasFileCause schema bytes)
+    (cell_cause-holds bad.fault (λ f. bad_cell_of schema is.0.rows ≡ Some (bad.row, bad.col, f)) (inr is.2.1))
+    (λ f here. bad_cell_at schema bytes is.0 bad.row bad.col f is.1 is.2.0 here)
+file_wrong schema bytes wrong.NoMemory is = tt
+
+some_cause : (fault : CellFault) (row col : ℕ) → fault ≢ NoMemory → option_map (bad_cell row col) (cell_cause fault) ≡ None → ⊥
+some_cause NoMemory row col not is = not refl
+some_cause fault row col not is = cc
+
+-- it has a cause unless memory ran out
+pub file_known : (columns : List ColumnOf) (bytes : List ℕ) (fault : FileFault) → IsWrongFile columns bytes fault → file_cause fault ≡ None → fault ≡ wrong.NoMemory
+file_known columns bytes (wrong.Text fault) is none = let e : option_map bad_text (text_cause fault) ≡ Some (bad_text is.0) = ap (option_map bad_text) is.1 in absurd (cc)
+file_known columns bytes (wrong.Header col) is none = absurd (cc)
+file_known columns bytes (wrong.Cell bad) is none = absurd (some_cause bad.fault bad.row bad.col is.2.2 none)
+file_known columns bytes wrong.NoMemory is none = refl
 
 -- where each cell has a value, these are the cells
 pub table_cells : (schema : SchemaOf) (bytes : List ℕ) (file : RawTable) → IsTableAt schema.columns bytes file

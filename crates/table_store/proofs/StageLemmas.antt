@@ -3,29 +3,30 @@ use Rattle.std.proofs.Common.{◌≡◌, ℕ, ◌<◌, ◌≤◌, ◌^◌, List,
 use Rattle.std.specs.List.{AllByRecursion}
 use Rattle.std.proofs.lemmas.Option.{IfSome_then}
 use Rattle.csv_grammar.specs.Raw.{RawField}
-use Rattle.csv_index.specs.Indexing.{IndexingOf}
 use Rattle.csvw_meta.specs.Schema.{schema_view, SchemaOf}
 use Rattle.csv_fields.specs.Values.{rows_in}
 use Rattle.key_index.specs.Key.{key_index}
 use Rattle.key_index.specs.Keys.{typed_keys}
-use Rattle.key_index.specs.Reading.{keys_left}
+use Rattle.key_index.specs.Reading.{keys_left, AreHeld}
 use Rattle.key_index.specs.declared.reading.KeysReading.{KeysReading}
 use Rattle.column_blocks.specs.TypedColumn.{AreTyped, ColumnCells}
+use Rattle.file_cells.specs.declared.file_reading.FileCells.{FileCells}
+use Rattle.file_cells.specs.declared.file_reading.FileReading.{FileReading}
+use Rattle.file_cells.specs.Reading.{HasCellsOf, HasColumns, IsReading}
+use Rattle.file_cells.proofs.HeaderLemmas.{header_fits}
 use Rattle.table_store.specs.declared.reading.Stage.{Stage}
 use Rattle.table_store.specs.declared.reading.Stage.TheVariants as stages
 use Rattle.table_store.specs.declared.reading.StageStep.{StageStep}
 use Rattle.table_store.specs.declared.reading.StageStep.TheVariants as stage_steps
-use Rattle.table_store.specs.declared.stretches.RowsReading.{RowsReading}
 use Rattle.table_store.specs.declared.table_loading.TableLoading.{TableLoading}
 use Rattle.table_store.specs.Catalog.{HasFile, HasTableCause}
 use Rattle.table_store.specs.Fault.{TableCause, file_missing, file_too_large, bad_text, bad_header, bad_cell, key_null, key_twice}
 use Rattle.table_store.specs.Loading.{keys_at, HasFileCause, HasRowsCause}
-use Rattle.table_store.specs.Steps.{stage_left, HasAllOfRows, IsAtStage, KeysReadOn, LoadsTable, ReachesStage, ReadsKeys, ReadsRows, ReadsTable, RowsReadOn, StageGoesOn}
+use Rattle.table_store.specs.Steps.{stage_left, FileReadsOn, HasAllOfRows, IsAtStage, KeysReadOn, LoadsTable, ReadsFile, ReadsKeys, ReadsTable, StageGoesOn}
 use Rattle.table_store.proofs.ColumnLemmas.{typed-keys, typed-rows}
-use Rattle.table_store.proofs.FitLemmas.{rows-within}
-use Rattle.table_store.proofs.InsideLemmas.{length-rows_in, rows-wide}
+use Rattle.csv_windows.proofs.CountLemmas.{rows-within}
+use Rattle.file_cells.proofs.InsideLemmas.{length-rows_in, rows-wide}
 use Rattle.table_store.proofs.LoadingLemmas.{rows_cause}
-use Rattle.table_store.proofs.StepLemmas.{few_left}
 
 -- the keys of the columns of rows are those of the rows
 pub keys_read : (schema : SchemaOf) (raws : List (List RawField)) (n : ℕ) (typed : List ColumnCells) → n ≡ length raws
@@ -53,9 +54,9 @@ rows_refused limit file schema Read cause reads wrong =
     IfSome_then cause wrong (λ cause wrong. file_refused limit file schema reads.0 cause reads.1
     (rows_cause schema reads.0 reads.2.raw cause reads.2.is reads.2.header_matches wrong))
 
-pub text_refused : (limit : ℕ) (file : Option (List ℕ)) (schema : SchemaOf) (indexing : IndexingOf) (cause : Option TableCause) → IsAtStage limit file schema (stages.File indexing)
-    → IfSome cause (HasFileCause schema indexing.bytes) → IfSome cause (HasTableCause limit file schema)
-text_refused limit file schema indexing cause at wrong = IfSome_then cause wrong (λ cause wrong. file_refused limit file schema indexing.bytes cause at.0 wrong)
+pub columns_refused : (limit : ℕ) (file : Option (List ℕ)) (schema : SchemaOf) (reading : FileReading) (cause : Option TableCause) → (at : IsAtStage limit file schema (stages.File reading))
+    → IfSome cause (HasFileCause schema at.0) → IfSome cause (HasTableCause limit file schema)
+columns_refused limit file schema reading cause at wrong = IfSome_then cause wrong (λ cause wrong. file_refused limit file schema at.0 cause at.1 wrong)
 
 -- the rows of the file are few
 pub few_rows : (limit : ℕ) (file : Option (List ℕ)) (schema : SchemaOf) (Read : List (List RawField) → Type 0) → (reads : ReadsTable limit file schema Read) → length reads.2.raw.rows ≤ 2 ^ 30
@@ -71,37 +72,34 @@ read_as limit file schema Read More reads more = (
 )
 
 -- ---- the next stage
-pub stage_of_file : (limit : ℕ) (file : Option (List ℕ)) (schema : SchemaOf) (old : IndexingOf) (stage : Stage) → IsAtStage limit file schema (stages.File old) → ReachesStage schema old stage
-    → IsAtStage limit file schema stage × (stage_left stage < stage_left (stages.File old))
-stage_of_file limit file schema old (stages.File new) at (same, less) = (
-  (subst (HasFile limit file) (sym same) at.0, omega (arith, at.1, ap length same), omega (arith, at.2, less)),
-  omega (arith, less),
-)
-stage_of_file limit file schema old (stages.Rows reading) at reads = (
-  (old.bytes, at.0, reads),
-  omega (arith, rows-within old.bytes reads.raw reads.is, reads.short, few_left schema.columns reads.raw.rows reading reads.reads),
-)
-stage_of_file limit file schema old (stages.Keys keys) at reads = absurd reads
+pub stage_of_file : (limit : ℕ) (file : Option (List ℕ)) (schema : SchemaOf) (old : FileReading) (step : StageStep) → IsAtStage limit file schema (stages.File old)
+    → ((given : List ℕ) → IsReading schema.columns given old → FileReadsOn schema given old step) → StageGoesOn limit file schema (stage_left (stages.File old)) step
+stage_of_file limit file schema old (stage_steps.On (stages.File new)) at on = let next = on at.0 at.2 in ((at.0, at.1, next.0), omega (arith, next.1))
+stage_of_file limit file schema old (stage_steps.On (stages.Keys keys)) at on =
+    let next = on at.0 at.2 in
+    let reads = next.0 in ((at.0, at.1, reads), omega (arith, next.1, reads.reads.count, rows-within at.0 reads.raw reads.is, reads.short))
+stage_of_file limit file schema old (stage_steps.Over parts) at on = absurd (on at.0 at.2)
 
-pub stage_of_rows : (limit : ℕ) (file : Option (List ℕ)) (schema : SchemaOf) (old : RowsReading) (stage : Stage) → (at : IsAtStage limit file schema (stages.Rows old))
-    → ((rows : List (List RawField)) → ReadsRows schema.columns rows old → RowsReadOn schema rows old stage)
-    → IsAtStage limit file schema stage × (stage_left stage < stage_left (stages.Rows old))
-stage_of_rows limit file schema old (stages.File indexing) at on = absurd (on at.2.raw.rows at.2.reads)
-stage_of_rows limit file schema old (stages.Rows new) at on =
-    let next = on at.2.raw.rows at.2.reads in
-    (read_as limit file schema (λ rows. ReadsRows schema.columns rows old) (λ rows. ReadsRows schema.columns rows new) at next.0, omega (arith, next.1))
-stage_of_rows limit file schema old (stages.Keys keys) at on =
-    let next = on at.2.raw.rows at.2.reads in
-    let few = few_rows limit file schema (λ rows. ReadsRows schema.columns rows old) at in (
-      read_as limit file schema (λ rows. ReadsRows schema.columns rows old) (λ rows. ReadsKeys schema rows keys) at next.0,
-      omega (arith, next.1, few, at.2.reads.count),
-    )
+-- the columns are read, and no key
+pub keys_begun : (schema : SchemaOf) (bytes : List ℕ) (read : FileCells) (keys : KeysReading) → length bytes ≤ 2 ^ 30 → HasCellsOf schema.columns bytes read → keys.rows ≡ read.rows
+    → keys.columns.items ≡ read.columns.items → AreHeld schema.key keys → ReadsFile schema bytes (λ rows. ReadsKeys schema rows keys)
+keys_begun schema bytes read keys short has same columns held = record {
+  short = short;
+  raw = has.raw;
+  is = has.is;
+  header_matches = has.header_matches;
+  reads = record {
+    count = same ∙ has.count;
+    wide = (header_fits schema.columns bytes has.raw has.is has.header_matches).rows;
+    columns = subst (HasColumns schema.columns has.raw.rows) (sym columns) has.cells;
+    held = held;
+  };
+}
 
 pub stage_of_keys : (limit : ℕ) (file : Option (List ℕ)) (schema : SchemaOf) (old : KeysReading) (step : StageStep) → (at : IsAtStage limit file schema (stages.Keys old))
     → ((rows : List (List RawField)) → ReadsKeys schema rows old → KeysReadOn schema rows (keys_left old) step)
     → StageGoesOn limit file schema (stage_left (stages.Keys old)) step
-stage_of_keys limit file schema old (stage_steps.On (stages.File indexing)) at on = absurd (on at.2.raw.rows at.2.reads)
-stage_of_keys limit file schema old (stage_steps.On (stages.Rows reading)) at on = absurd (on at.2.raw.rows at.2.reads)
+stage_of_keys limit file schema old (stage_steps.On (stages.File reading)) at on = absurd (on at.2.raw.rows at.2.reads)
 stage_of_keys limit file schema old (stage_steps.On (stages.Keys new)) at on =
     let next = on at.2.raw.rows at.2.reads in
     (read_as limit file schema (λ rows. ReadsKeys schema rows old) (λ rows. ReadsKeys schema rows new) at next.0, next.1)

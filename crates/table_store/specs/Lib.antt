@@ -6,8 +6,6 @@ pub mod Summaries
 pub mod Inside
 pub mod Fault
 pub mod Loading
-pub mod Parts
-pub mod Stretches
 pub mod Steps
 pub mod Catalog
 pub mod FolderSteps

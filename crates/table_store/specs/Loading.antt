@@ -14,8 +14,11 @@ use Rattle.cell_types.specs.Column.{ColumnOf}
 use Rattle.csvw_meta.specs.declared.schema.Schema.{Schema}
 use Rattle.csvw_meta.specs.Schema.{SchemaOf, schema_view}
 use Rattle.table_store.specs.declared.table_fault.TableFault.{TableFault}
-use Rattle.table_store.specs.declared.table_fault.TableFault.TheVariants.{FileMissing, FileTooLarge, Text, Header, Cell, Key, NoMemory}
-use Rattle.table_store.specs.Table.{TableOf, mismatch_from, rows_from, HasOtherHeader, HasBadCell, HasNullKey, HasKeyTwice}
+use Rattle.table_store.specs.declared.table_fault.TableFault.TheVariants.{File, Key, NoMemory}
+use Rattle.file_cells.specs.declared.fault.FileFault.{FileFault}
+use Rattle.file_cells.specs.declared.fault.FileFault.TheVariants as wrong
+use Rattle.file_cells.specs.Rows.{mismatch_of}
+use Rattle.table_store.specs.Table.{TableOf, rows_from, HasOtherHeader, HasBadCell, HasNullKey, HasKeyTwice}
 use Rattle.table_store.specs.Fault.{TableCause, file_missing, file_too_large, bad_text, bad_header, bad_cell, key_null, key_twice, cell_cause, LoadCause, no_metadata, bad_meta, bad_table}
 use Rattle.table_store.specs.File.{FileOf}
 use Rattle.key_index.specs.Key.{key_index, null_row, repeated_row}
@@ -26,10 +29,6 @@ use Rattle.key_index.specs.declared.keys.KeyFault.TheVariants.{Null, Twice}
 use Rattle.column_blocks.specs.TypedColumn.{AreTyped}
 use Rattle.table_store.specs.Catalog.{HasFile, HasTableCause, IsFirstBadTable}
 use Rattle.csv_fields.specs.Values.{rows_in, AllHaveValues, FitsColumns}
-
--- the first header cell that does not match, or lacks its column, or is lacked by one
-abbrev pub mismatch_of : List ColumnOf → List RawField → Option ℕ
-mismatch_of columns header = mismatch_from 0 columns (map field_of header)
 
 -- the table of a schema and the fields of its file
 abbrev pub table_at : SchemaOf → RawTable → TableOf
@@ -53,12 +52,14 @@ key_cause (Null row) = key_null row
 key_cause (Twice row) = key_twice row
 
 -- the cause that an error is; none, where memory ran out
+abbrev pub file_cause : FileFault → Option TableCause
+file_cause (wrong.Text fault) = option_map bad_text (text_cause fault)
+file_cause (wrong.Header col) = Some (bad_header col)
+file_cause (wrong.Cell bad) = option_map (bad_cell bad.row bad.col) (cell_cause bad.fault)
+file_cause wrong.NoMemory = None
+
 abbrev pub table_cause : TableFault → Option TableCause
-table_cause FileMissing = Some file_missing
-table_cause FileTooLarge = Some file_too_large
-table_cause (Text fault) = option_map bad_text (text_cause fault)
-table_cause (Header col) = Some (bad_header col)
-table_cause (Cell bad) = option_map (bad_cell bad.row bad.col) (cell_cause bad.fault)
+table_cause (File fault) = file_cause fault
 table_cause (Key fault) = Some (key_cause fault)
 table_cause NoMemory = None
 

@@ -1,13 +1,13 @@
 -- How far the loading of a folder has come.
-use Rattle.std.specs.Prelude.{◌≡◌, ℕ, ◌+◌, ◌-◌, ◌*◌, ◌^◌, ◌<◌, ◌≤◌, List, length, drop, take, Option, None, IfSome}
+use Rattle.std.specs.Prelude.{◌≡◌, ℕ, ◌+◌, ◌*◌, ◌^◌, ◌<◌, ◌≤◌, Bool, false, List, length, Option, None, IfSome}
 use Rattle.std.specs.List.{AllByRecursion}
-use Rattle.cell_types.specs.Column.{ColumnOf}
 use Rattle.csv_grammar.specs.Raw.{RawField, RawTable}
 use Rattle.csv_index.specs.Index.{IsRawTable}
-use Rattle.csv_index.specs.Indexing.{IndexingOf}
 use Rattle.csvw_meta.specs.Laws.{HasShortDefaults}
 use Rattle.csvw_meta.specs.Schema.{SchemaOf, schema_view}
-use Rattle.csv_fields.specs.Values.{FitsColumns}
+use Rattle.file_cells.specs.declared.file_reading.FileReading.{FileReading}
+use Rattle.file_cells.specs.Reading.{reading_left, wants_more, HasColumns, IsReading}
+use Rattle.file_cells.specs.Rows.{mismatch_of}
 use Rattle.key_index.specs.declared.reading.KeysReading.{KeysReading}
 use Rattle.key_index.specs.declared.reading.KeyedRows.{KeyedRows}
 use Rattle.key_index.specs.Reading.{keys_left, AreHeld}
@@ -15,45 +15,20 @@ use Rattle.table_store.specs.declared.reading.Stage.{Stage}
 use Rattle.table_store.specs.declared.reading.Stage.TheVariants as stages
 use Rattle.table_store.specs.declared.reading.StageStep.{StageStep}
 use Rattle.table_store.specs.declared.reading.StageStep.TheVariants as stage_steps
-use Rattle.table_store.specs.declared.stretches.RowsReading.{RowsReading}
-use Rattle.table_store.specs.declared.stretches.RowsStep.{RowsStep}
-use Rattle.table_store.specs.declared.stretches.RowsStep.TheVariants as rows_steps
 use Rattle.table_store.specs.declared.table_loading.TableLoading.{TableLoading}
 use Rattle.table_store.specs.declared.table_loading.TableStep.{TableStep}
 use Rattle.table_store.specs.declared.table_loading.TableStep.TheVariants as table_steps
 use Rattle.table_store.specs.Catalog.{HasFile, HasTable, HasTableCause}
 use Rattle.table_store.specs.Fault.{TableCause}
-use Rattle.table_store.specs.Loading.{bad_cell_of, mismatch_of, ArePartsOf, HasKeyColumns}
+use Rattle.table_store.specs.File.{with_more}
+use Rattle.table_store.specs.Loading.{bad_cell_of, ArePartsOf, HasKeyColumns}
 use Rattle.table_store.specs.Table.{TableOf}
-use Rattle.table_store.specs.Stretches.{HasColumns, IsReadPast, ReadsStretch}
-
--- the last ones of those rows are read, and the file has the others, the last of which are being read
-pub record ReadsRows (columns : List ColumnOf) (rows : List (List RawField)) (reading : RowsReading) : Type 0 where
-  pub count : reading.rows ≡ length rows
-  pub wide : AllByRecursion (λ fields. length fields ≡ length columns) rows
-  pub fits : FitsColumns columns reading.file
-  pub left : reading.file.rows ≡ take (length reading.file.rows) rows
-  pub after : IsReadPast (length reading.file.rows) columns (drop (length reading.file.rows) rows) reading.after
-  pub stretch : ReadsStretch columns reading.file.rows reading.stretch
-
--- some rows are read so
-abbrev pub IsReadingRows : List ColumnOf → RowsReading → Type 0
-IsReadingRows columns reading = (rows : List (List RawField)) × ReadsRows columns rows reading
-
--- no more steps than these are left
-abbrev pub rows_left : RowsReading → ℕ
-rows_left reading = 2 * reading.stretch.first + (length reading.file.rows - reading.stretch.row)
-
--- fewer steps are left, or the rows are read
-abbrev pub RowsGoOn : List ColumnOf → List (List RawField) → ℕ → RowsStep → Type 0
-RowsGoOn columns rows left (rows_steps.On new) = ReadsRows columns rows new × (rows_left new < left)
-RowsGoOn columns rows left (rows_steps.Over read) = HasColumns 0 columns rows read.items
 
 -- the columns of those rows are read, and the keys of the first ones are read
 pub record ReadsKeys (schema : SchemaOf) (rows : List (List RawField)) (keys : KeysReading) : Type 0 where
   pub count : keys.rows ≡ length rows
   pub wide : AllByRecursion (λ fields. length fields ≡ length schema.columns) rows
-  pub columns : HasColumns 0 schema.columns rows keys.columns.items
+  pub columns : HasColumns schema.columns rows keys.columns.items
   pub held : AreHeld schema.key keys
 
 -- all is read of those rows, in which nothing is wrong
@@ -63,7 +38,6 @@ HasAllOfRows schema rows parts = (bad_cell_of schema rows ≡ None) × ArePartsO
 -- the keys of more rows are read, or all is read
 abbrev pub KeysReadOn : SchemaOf → List (List RawField) → ℕ → StageStep → Type 0
 KeysReadOn schema rows left (stage_steps.On (stages.File new)) = ⊥
-KeysReadOn schema rows left (stage_steps.On (stages.Rows new)) = ⊥
 KeysReadOn schema rows left (stage_steps.On (stages.Keys new)) = ReadsKeys schema rows new × (keys_left new < left)
 KeysReadOn schema rows left (stage_steps.Over parts) = HasAllOfRows schema rows parts
 
@@ -83,29 +57,26 @@ ReadsTable limit file schema Read = (bytes : List ℕ) × HasFile limit file byt
 abbrev pub IsReadWhole : SchemaOf → KeyedRows → Type 0
 IsReadWhole schema parts = (limit : ℕ) × (file : Option (List ℕ)) × ReadsTable limit file schema (λ rows. HasAllOfRows schema rows parts)
 
--- there is a file, not above the limit, that is indexed, or whose rows are read, or the keys of whose rows are read
+-- there is a file, not above the limit, whose columns are read, or the keys of whose rows are
 abbrev pub IsAtStage : ℕ → Option (List ℕ) → SchemaOf → Stage → Type 0
-IsAtStage limit file schema (stages.File indexing) = HasFile limit file indexing.bytes × (length indexing.bytes ≤ 2 ^ 30) × (indexing.left ≤ 2 ^ 32)
-IsAtStage limit file schema (stages.Rows reading) = ReadsTable limit file schema (λ rows. ReadsRows schema.columns rows reading)
+IsAtStage limit file schema (stages.File reading) = (bytes : List ℕ) × HasFile limit file bytes × IsReading schema.columns bytes reading
 IsAtStage limit file schema (stages.Keys keys) = ReadsTable limit file schema (λ rows. ReadsKeys schema rows keys)
 
--- less of a file is left to be indexed, or its rows are read
-abbrev pub ReachesStage : SchemaOf → IndexingOf → Stage → Type 0
-ReachesStage schema old (stages.File new) = (new.bytes ≡ old.bytes) × (new.left < old.left)
-ReachesStage schema old (stages.Rows reading) = ReadsFile schema old.bytes (λ rows. ReadsRows schema.columns rows reading)
-ReachesStage schema old (stages.Keys keys) = ⊥
-
--- fewer steps are left in which those rows are read, or their keys are read
-abbrev pub RowsReadOn : SchemaOf → List (List RawField) → RowsReading → Stage → Type 0
-RowsReadOn schema rows old (stages.File new) = ⊥
-RowsReadOn schema rows old (stages.Rows new) = ReadsRows schema.columns rows new × (rows_left new < rows_left old)
-RowsReadOn schema rows old (stages.Keys keys) = ReadsKeys schema rows keys × (keys_left keys ≡ 4 * old.rows + 5)
-
--- no more steps than these are left at a stage: of a file two for each row, of which it has at most 2 to the 30, and those in which their keys are read
+-- no more steps than these are left at a stage: of a file, which has at most 2 to the 30 rows, also those in which their keys are read
 abbrev pub stage_left : Stage → ℕ
-stage_left (stages.File indexing) = indexing.left + (2 ^ 33 + 2 ^ 31 + 1)
-stage_left (stages.Rows reading) = rows_left reading + 2 ^ 33
+stage_left (stages.File reading) = reading_left reading + 2 ^ 33
 stage_left (stages.Keys keys) = keys_left keys
+
+-- the next step is to have more of the file
+abbrev pub stage_wants : Stage → Bool
+stage_wants (stages.File reading) = wants_more reading
+stage_wants (stages.Keys keys) = false
+
+-- a window more of the file is read, or the columns are, and no key
+abbrev pub FileReadsOn : SchemaOf → List ℕ → FileReading → StageStep → Type 0
+FileReadsOn schema bytes old (stage_steps.On (stages.File new)) = IsReading schema.columns bytes new × (reading_left new < reading_left old)
+FileReadsOn schema bytes old (stage_steps.On (stages.Keys keys)) = ReadsFile schema bytes (λ rows. ReadsKeys schema rows keys) × (keys_left keys ≡ 4 * keys.rows + 5)
+FileReadsOn schema bytes old (stage_steps.Over parts) = ⊥
 
 -- less is left at a stage, or all is read
 abbrev pub StageGoesOn : ℕ → Option (List ℕ) → SchemaOf → ℕ → StageStep → Type 0
@@ -142,3 +113,8 @@ TableGoesOn limit file schema left (table_steps.Over table) = HasTable limit fil
 abbrev pub TableStepsOn : TableLoading → TableStep → Type 0
 TableStepsOn loading step = (limit : ℕ) (file : Option (List ℕ)) (schema : SchemaOf) → LoadsTable limit file schema loading
     → TableGoesOn limit file schema (stage_left loading.stage) step
+
+-- of each table that is read so the file has these bytes more
+abbrev pub FeedsOn : ℕ → List ℕ → TableLoading → TableLoading → Type 0
+FeedsOn limit bytes old new = (file : Option (List ℕ)) (schema : SchemaOf) → LoadsTable limit file schema old
+    → LoadsTable limit (with_more bytes file) schema new × (stage_left new.stage < stage_left old.stage)

@@ -1,13 +1,10 @@
 -- Annotated tables: what a table's file means under its schema (Model for Tabular Data and Metadata on the Web, section 4).
-use Rattle.std.specs.Prelude.{◌≡◌, ℕ, ◌+◌, Bool, ◌||◌, List, [], ◌∷◌, Option, None, Some, if◌then◌else◌, Result, Ok, Err}
-use Rattle.std.specs.List.{list_any}
-use Rattle.std.specs.Str.{bytes_eq}
-use Rattle.csv_grammar.specs.Records.{Field, content}
+pub use Rattle.file_cells.specs.Rows.{is_called, mismatch_from, value_then, values_from, row_then, rows_from}
+use Rattle.std.specs.Prelude.{◌≡◌, ℕ, List, None, Some, Ok, Err}
+use Rattle.csv_grammar.specs.Records.{Field}
 use Rattle.csv_grammar.specs.Files.{IsTable}
 use Rattle.cell_types.specs.declared.fault.CellFault.{CellFault}
 use Rattle.cell_types.specs.Value.{CellValue}
-use Rattle.cell_types.specs.Column.{ColumnOf}
-use Rattle.cell_types.specs.Cell.{value_of}
 use Rattle.csvw_meta.specs.Schema.{SchemaOf}
 use Rattle.key_index.specs.Key.{key_index, null_row, repeated_row}
 
@@ -15,42 +12,6 @@ use Rattle.key_index.specs.Key.{key_index, null_row, repeated_row}
 pub record TableOf : Type 0 where
   pub schema : SchemaOf
   pub rows : List (List CellValue)
-
--- a header cell may be the column's name or one of its titles
-abbrev pub is_called : ColumnOf → List ℕ → Bool
-is_called column bytes = bytes_eq column.name bytes || list_any (λ title. bytes_eq title bytes) column.titles
-
--- the first place, counted on from place, where a column and a header cell do not match or one of them is missing
-abbrev pub mismatch_from : ℕ → List ColumnOf → List Field → Option ℕ
-mismatch_from place [] [] = None
-mismatch_from place [] (field ∷ fields) = Some place
-mismatch_from place (column ∷ columns) [] = Some place
-mismatch_from place (column ∷ columns) (field ∷ fields) =
-    if is_called column (content field) then mismatch_from (place + 1) columns fields else Some place
-
--- a value and those after it, or the first that is missing, by its place, and why
-abbrev pub value_then : ℕ → Result CellValue CellFault → Result (List CellValue) (ℕ × CellFault) → Result (List CellValue) (ℕ × CellFault)
-value_then place (Ok value) (Ok values) = Ok (value ∷ values)
-value_then place (Ok value) (Err later) = Err later
-value_then place (Err fault) values = Err (place, fault)
-
--- the values of a record, or the first column, counted on from place, whose cell has none, and why
-abbrev pub values_from : ℕ → List ColumnOf → List Field → Result (List CellValue) (ℕ × CellFault)
-values_from place [] fields = Ok []
-values_from place (column ∷ columns) [] = Ok []
-values_from place (column ∷ columns) (field ∷ fields) =
-    value_then place (value_of column (content field)) (values_from (place + 1) columns fields)
-
--- a row and those after it, or the first cell that has no value
-abbrev pub row_then : ℕ → Result (List CellValue) (ℕ × CellFault) → Result (List (List CellValue)) (ℕ × ℕ × CellFault) → Result (List (List CellValue)) (ℕ × ℕ × CellFault)
-row_then row (Ok values) (Ok rows) = Ok (values ∷ rows)
-row_then row (Ok values) (Err later) = Err later
-row_then row (Err found) rows = Err (row, found.0, found.1)
-
--- the rows of values, or the first cell, row by row and counted on from row, that has none, and why
-abbrev pub rows_from : ℕ → List ColumnOf → List (List Field) → Result (List (List CellValue)) (ℕ × ℕ × CellFault)
-rows_from row columns [] = Ok []
-rows_from row columns (record_fields ∷ records) = row_then row (values_from 0 columns record_fields) (rows_from (row + 1) columns records)
 
 -- the file is a table whose header matches the schema and whose cells have these values
 pub record HasCells (schema : SchemaOf) (bytes : List ℕ) (table : TableOf) : Type 0 where

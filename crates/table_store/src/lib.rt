@@ -8,11 +8,8 @@ mod catalog;
 mod fault;
 mod file;
 mod folder_loading;
-mod header;
 mod laws;
-mod parts;
 mod reading;
-mod stretches;
 mod summaries;
 mod table;
 mod table_fault;
@@ -21,7 +18,7 @@ mod table_loading;
 pub use block::Block;
 pub use catalog::Catalog;
 pub use fault::LoadFault;
-pub use file::NamedFile;
+pub use file::{FileStart, NamedFile};
 pub use folder_loading::{Loaded, Loading};
 pub use laws::{
     first_bad_cell_is_first, first_mismatch_is_first, keys_of_tables, one_meaning,

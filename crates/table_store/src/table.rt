@@ -15,11 +15,12 @@ ghost use Rattle.table_store.specs.Table.{keys_of};
 
 use crate::fault::LoadFault;
 use crate::summaries::summaries_of;
-use crate::table_fault::{BadCell, TableFault};
+use crate::table_fault::TableFault;
 use block_summary::{BLOCK_ROWS, PackedColumn, Summary};
 use cell_types::Value;
 use column_blocks::{BlockCells, TypedColumn};
 use csvw_meta::Schema;
+use file_cells::{BadCell, FileFault};
 use key_index::{KeyFault, KeyedRows, Keys};
 use std::alloc::{AllocError, Global};
 use std::marker::Model;
@@ -181,16 +182,15 @@ pub(crate) fn fault_of(table: String, fault: TableFault) -> LoadFault
     ensures memory { fault ≡ TableFault.NoMemory → result ≡ LoadFault.NoMemory }
 {
     match fault {
-        TableFault::FileMissing => LoadFault::FileMissing { table },
-        TableFault::FileTooLarge => LoadFault::FileTooLarge { table },
-        TableFault::Text(fault) => LoadFault::Text { table, fault },
-        TableFault::Header(col) => LoadFault::Header { table, col },
-        TableFault::Cell(BadCell { row, col, fault }) => LoadFault::Cell {
+        TableFault::File(FileFault::Text(fault)) => LoadFault::Text { table, fault },
+        TableFault::File(FileFault::Header(col)) => LoadFault::Header { table, col },
+        TableFault::File(FileFault::Cell(BadCell { row, col, fault })) => LoadFault::Cell {
             table,
             row,
             col,
             fault,
         },
+        TableFault::File(FileFault::NoMemory) => LoadFault::NoMemory,
         TableFault::Key(KeyFault::Null(row)) => LoadFault::KeyNull { table, row },
         TableFault::Key(KeyFault::Twice(row)) => LoadFault::KeyTwice { table, row },
         TableFault::NoMemory => LoadFault::NoMemory,

@@ -4,7 +4,7 @@ use Rattle.csv_fields.specs.Values.{rows_in}
 use Rattle.key_index.specs.Keys.{typed_keys, AreKeysOf, HasKeyFault}
 use Rattle.key_index.specs.Reading.{AreHeld}
 use Rattle.column_blocks.specs.TypedColumn.{AreTyped}
-use Rattle.table_store.specs.Stretches.{HasColumns}
+use Rattle.file_cells.specs.Reading.{HasColumns}
 use Rattle.table_store.proofs.LoadingLemmas.{key_fault-cause}
 use Rattle.table_store.proofs.StageLemmas.{keys_read}
 use Rattle.table_store.proofs.reading.keys_step.Goals as goal
@@ -26,7 +26,7 @@ returns-in-On-clause-goes_on c = λ raws reads.
       record {
         count = on.1 ∙ reads.count;
         wide = reads.wide;
-        columns = subst (HasColumns 0 schema.columns raws) (sym on.2) reads.columns;
+        columns = subst (HasColumns schema.columns raws) (sym on.2) reads.columns;
         held = subst (λ places. AreHeld places c.in-On.keys) c.as_slice.ensures.value on.0;
       },
       on.3,

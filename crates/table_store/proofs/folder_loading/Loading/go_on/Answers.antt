@@ -11,7 +11,7 @@ returns-in-Ok-On-clause-goes_on c = λ folder loads.
 pub returns-in-Ok-clause-goes_on : goal.returns-in-Ok-clause-goes_on
 returns-in-Ok-clause-goes_on c = λ folder loads.
     let ends = rw c.in-Ok-Over.field-0-is at c.in-Ok-Over.ensures.goes_on in
-    table_ended folder c.args.self _ c.args.table c.in-Ok-Over.table refl refl refl c.in-Ok.ensures.items c.requires.none ends loads
+    table_ended folder c.args.self _ c.args.table c.in-Ok-Over.table refl refl c.in-Ok.ensures.items c.requires.none ends loads
 
 pub returns-in-Err-clause-fault : goal.returns-in-Err-clause-fault
 returns-in-Err-clause-fault c = λ folder loads.

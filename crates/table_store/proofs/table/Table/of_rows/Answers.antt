@@ -9,7 +9,7 @@ use Rattle.table_store.specs.Inside.{table_of}
 use Rattle.table_store.specs.Table.{TableOf, keys_of}
 use Rattle.table_store.proofs.ColumnLemmas.{kept_lengths, length-table}
 use Rattle.table_store.proofs.FitLemmas.{table-fits}
-use Rattle.table_store.proofs.InsideLemmas.{length-rows_in}
+use Rattle.file_cells.proofs.InsideLemmas.{length-rows_in}
 use Rattle.table_store.proofs.LoadingLemmas.{has_table, is_table_at, parts_table}
 use Rattle.table_store.proofs.SummaryLemmas.{are_summaries}
 use Rattle.table_store.proofs.table.Table.of_rows.Goals as goal

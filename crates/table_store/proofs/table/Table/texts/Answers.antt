@@ -6,7 +6,7 @@ use Rattle.table_store.specs.Inside.{table_view}
 use Rattle.table_store.specs.Table.{TableOf}
 use Rattle.table_store.proofs.BlockLemmas.{text_part}
 use Rattle.table_store.proofs.ColumnLemmas.{column_at, kept_length}
-use Rattle.table_store.proofs.PlaceLemmas.{slice_get-from_read}
+use Rattle.file_cells.proofs.PlaceLemmas.{slice_get-from_read}
 use Rattle.table_store.proofs.table.Table.texts.Goals as goal
 
 pub index-requires : goal.index-requires

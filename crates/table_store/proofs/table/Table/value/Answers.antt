@@ -3,7 +3,7 @@ use Rattle.csvw_meta.specs.Schema.{schema_view}
 use Rattle.table_store.specs.Inside.{table_view}
 use Rattle.table_store.specs.Table.{TableOf}
 use Rattle.table_store.proofs.ColumnLemmas.{cell_of_column, table-wide}
-use Rattle.table_store.proofs.PlaceLemmas.{slice_get-from_read}
+use Rattle.file_cells.proofs.PlaceLemmas.{slice_get-from_read}
 use Rattle.table_store.proofs.table.Table.value.Goals as goal
 
 pub index-requires : goal.index-requires

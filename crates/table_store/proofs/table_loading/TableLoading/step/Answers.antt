@@ -9,10 +9,10 @@ use Rattle.table_store.proofs.StageLemmas.{at_stage, loads_on}
 use Rattle.table_store.proofs.table_loading.TableLoading.step.Goals as goal
 
 pub step-requires-clause-key : goal.step-requires-clause-key
-step-requires-clause-key c = let l = c.requires in subst HasKeyColumns (sym l.3.of_schema) l.3.keys
+step-requires-clause-key c = let l = c.requires.loads in subst HasKeyColumns (sym l.3.of_schema) l.3.keys
 
 pub step-requires-clause-at : goal.step-requires-clause-at
-step-requires-clause-at c = let l = c.requires in (l.0, l.1, at_stage l.0 l.1 l.2 c.args.self l.3)
+step-requires-clause-at c = let l = c.requires.loads in (l.0, l.1, at_stage l.0 l.1 l.2 c.args.self l.3)
 
 pub returns-in-Ok-On-clause-goes_on : goal.returns-in-Ok-On-clause-goes_on
 returns-in-Ok-On-clause-goes_on c = λ limit file schema loads.
@@ -22,15 +22,15 @@ returns-in-Ok-On-clause-goes_on c = λ limit file schema loads.
 
 pub of_rows-requires-clause-read : goal.of_rows-requires-clause-read
 of_rows-requires-clause-read c =
-    let l = c.requires in
+    let l = c.requires.loads in
     let goes = rw c.in-Ok-Over.field-0-is at c.in-Ok-Over.ensures.goes_on in
     (l.0, l.1, goes l.0 l.1 (at_stage l.0 l.1 l.2 c.args.self l.3))
 
 pub of_rows-requires-clause-key : goal.of_rows-requires-clause-key
-of_rows-requires-clause-key c = let l = c.requires in subst HasKeyColumns (sym l.3.of_schema) l.3.keys
+of_rows-requires-clause-key c = let l = c.requires.loads in subst HasKeyColumns (sym l.3.of_schema) l.3.keys
 
 pub of_rows-requires-clause-defaults : goal.of_rows-requires-clause-defaults
-of_rows-requires-clause-defaults c = let l = c.requires in subst HasShortDefaults (sym l.3.of_schema) l.3.defaults
+of_rows-requires-clause-defaults c = let l = c.requires.loads in subst HasShortDefaults (sym l.3.of_schema) l.3.defaults
 
 pub returns-in-Ok-clause-goes_on : goal.returns-in-Ok-clause-goes_on
 returns-in-Ok-clause-goes_on c = λ limit file schema loads.

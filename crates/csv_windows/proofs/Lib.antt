@@ -1,0 +1,5 @@
+pub mod CountLemmas
+pub mod LineLemmas
+pub mod TableLemmas
+pub mod FaultLemmas
+pub mod PieceLemmas

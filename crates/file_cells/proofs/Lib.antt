@@ -1,0 +1,9 @@
+pub mod PlaceLemmas
+pub mod InsideLemmas
+pub mod HeaderLemmas
+pub mod ReaderLemmas
+pub mod RowLemmas
+pub mod PartLemmas
+pub mod CellLemmas
+pub mod LoaderLemmas
+pub mod ReadingLemmas

@@ -1,0 +1,4 @@
+pub mod Rows
+pub mod Parts
+pub mod Cells
+pub mod Reading

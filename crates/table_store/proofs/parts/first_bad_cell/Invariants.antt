@@ -1,8 +1,0 @@
-use Rattle.std.proofs.Common.{◌≡◌, ◌+◌, drop, map}
-use Rattle.cell_types.specs.Column.{column_view}
-use Rattle.table_store.specs.Parts.{wrong_of}
-use Rattle.table_store.proofs.parts.first_bad_cell.Given as goal
-
--- nothing is wrong so far
-abbrev pub invariant-loop-row : goal.invariant-loop-row
-invariant-loop-row l = wrong_of (l.first + l.row) (map column_view l.columns) (drop l.row l.part.rows) ≡ wrong_of l.first (map column_view l.columns) l.part.rows
