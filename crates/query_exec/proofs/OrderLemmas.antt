@@ -81,16 +81,13 @@ some_made run None rows is = absurd (cc)
 some_made run (Some all) rows is = (all, refl, is)
 
 -- where no steps are left, what the sink made is the answer
-pub made_unordered : (old new : Run) (sunk : OrderedOf) → SinkEnds old.sink sunk → new.steps ≡ old.steps → KeepsUnordered old new sunk
-made_unordered old new sunk ends same = record {
+pub made_unordered : (old new : Run) (sunk made : OrderedOf) → SinkEnds old.sink sunk → new.steps ≡ old.steps → made.taken ≡ 0
+    → (map node_view old.steps.items ≡ [] → made ≡ sunk) → KeepsUnordered old new made
+made_unordered old new sunk made ends same untaken is = record {
   steps = same;
-  untaken = ends.untaken;
-  unordered_is = λ none passed has. ends.stored_is passed has.pushed;
+  untaken = untaken;
+  unordered_is = λ none passed has. ends.stored_is passed has.pushed ∙ ap (λ (o : OrderedOf). Some o.stored) (sym (is none));
 }
-
--- and where some are left, nothing is said
-pub made_of_steps : (old new : Run) (made : OrderedOf) → new.steps ≡ old.steps → made.taken ≡ 0 → (map node_view old.steps.items ≡ [] → ⊥) → KeepsUnordered old new made
-made_of_steps old new made same untaken some = record { steps = same; untaken = untaken; unordered_is = λ none passed has. absurd (some none) }
 
 pub ended_unordered : (run new : Run) (plan : PlanOf) (table : TableOf) (blocks : ℕ) (given : OrderedOf) → HasTakenBlocks run plan table blocks
     → HasPassed run (passed_rows run (read_rows plan table)) → passed_answer run (passed_rows run (read_rows plan table)) ≡ Some given.rows → KeepsUnordered run new given

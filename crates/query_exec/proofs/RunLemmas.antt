@@ -22,7 +22,7 @@ use Rattle.result_rows.specs.Rows.{OrderedOf, RowsOf}
 use Rattle.query_exec.specs.declared.fault.ExecFault.{ExecFault}
 use Rattle.query_exec.specs.declared.fault.ExecFault.TheVariants.{DivisionByZero, NoMemory, Failed}
 use Rattle.query_exec.specs.declared.run.Run.{Run}
-use Rattle.query_exec.specs.Steps.{without_count, GivesResult}
+use Rattle.query_exec.specs.Steps.{without_count, GivesInOrder}
 use Rattle.query_exec.specs.Fault.{exec_fault}
 use Rattle.row_eval.specs.declared.fault.EvalFault.{EvalFault}
 use Rattle.row_eval.specs.declared.fault.EvalFault.TheVariants as eval
@@ -281,14 +281,14 @@ module _ (run : Run) (ready : IsReady run) (works : run.faulted ≡ false) (turn
       ap (passed_answer run) some.1 ∙ turn.turn (sink_nodes run.sink) (map node_view run.steps.items) r
       ∙ ap (option_and_then (nodes_result (map node_view run.steps.items))) (sinks.gives some.0 some.2) ∙ is
 
-  fault_answer : (new : Run) (fault : EvalFault) → wanted_block run ≡ None → GivesResult (nodes_result (map node_view run.steps.items) sunk) (Err fault)
+  fault_answer : (new : Run) (fault : EvalFault) → wanted_block run ≡ None → GivesInOrder (nodes_result (map node_view run.steps.items) sunk) (Err fault)
       → RunGoesOn run new (Err (exec_fault fault))
   fault_answer new eval.DivisionByZero beyond gives = (beyond, answer_made None gives)
   fault_answer new eval.NoMemory beyond gives = tt
 
   -- a fault of the steps is one of the run
   pub fault_goes_on : (new : Run) (fault : EvalFault) (result : Result (Option OrderedOf) ExecFault) → wanted_block run ≡ None
-      → GivesResult (nodes_result (map node_view run.steps.items) sunk) (Err fault) → IsErrAnd result (λ made. made ≡ exec_fault fault)
+      → GivesInOrder (nodes_result (map node_view run.steps.items) sunk) (Err fault) → IsErrAnd result (λ made. made ≡ exec_fault fault)
       → RunGoesOn run new result
   fault_goes_on new fault (Ok made) beyond gives is = absurd is
   fault_goes_on new fault (Err made) beyond gives is = subst (λ f. RunGoesOn run new (Err f)) (sym is) (fault_answer new fault beyond gives)

@@ -5,13 +5,19 @@ use Rattle.row_eval.specs.declared.fault.EvalFault.{EvalFault}
 use Rattle.row_eval.specs.declared.fault.EvalFault.TheVariants.{DivisionByZero, NoMemory}
 use Rattle.query_meaning.specs.Meaning.{ResultOf}
 use Rattle.odata_query.specs.Aggregate.{NamedAggregateOf}
+use Rattle.result_rows.specs.Rows.{OrderedOf}
 use Rattle.query_plan.specs.Plan.{NodeOf, aggregating, grouping}
 
--- the result that there is, and a division by zero just where there is none
-abbrev pub GivesResult : Option ResultOf → Result ResultOf EvalFault → Type 0
-GivesResult made (Ok rows) = made ≡ Some rows
-GivesResult made (Err DivisionByZero) = made ≡ None
-GivesResult made (Err NoMemory) = Unit {0}
+-- rows in their order, none of which was taken: those that there are
+pub record IsInOrder (made : Option ResultOf) (given : OrderedOf) : Type 0 where
+  pub rows_are : made ≡ Some given.rows
+  pub untaken : given.taken ≡ 0
+
+-- they are, and a division by zero just where there are none
+abbrev pub GivesInOrder : Option ResultOf → Result OrderedOf EvalFault → Type 0
+GivesInOrder made (Ok given) = IsInOrder made given
+GivesInOrder made (Err DivisionByZero) = made ≡ None
+GivesInOrder made (Err NoMemory) = Unit {0}
 
 -- rows under their names, uncounted
 abbrev pub without_count : List (List ℕ) → List (List CellValue) → ResultOf

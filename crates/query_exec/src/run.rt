@@ -92,12 +92,8 @@ impl Run {
         }
         let sink = mem::replace(&mut self.sink, Sink::Collect(Kept::none(alloc)));
         let sunk = sink.finish(alloc)?;
-        if self.steps.is_empty() {
-            return Ok(Some(sunk));
-        }
-        let rows = sunk.into_rows(alloc)?;
-        let made = apply_all(alloc, &self.steps, rows)?;
-        Ok(Some(OrderedRows::stored(made)))
+        let made = apply_all(alloc, &self.steps, sunk)?;
+        Ok(Some(made))
     }
 
     /// Takes in the rows of the next block: those that pass the conditions go to the sink, until a condition divides by zero.

@@ -1,10 +1,11 @@
 -- The rows of an answer (OData 4.01 Part 2, URL Conventions, section 4.3): names, the values under them row by row, and how many rows there are where that
 -- was asked for.
-use Rattle.std.specs.Prelude.{◌≡◌, ℕ, List, [], ◌∷◌, ◌++◌, Option, None}
+use Rattle.std.specs.Prelude.{◌≡◌, ℕ, List, [], ◌∷◌, ◌++◌, Option, None, map}
 use Rattle.std.specs.List.Sorted.{IsPermutation}
 use Rattle.cell_types.specs.Value.{CellValue}
 use Rattle.csvw_meta.specs.Schema.{SchemaOf}
 use Rattle.table_store.specs.Table.{TableOf}
+use Rattle.query_meaning.specs.Apply.{names_at, values_at}
 use Rattle.query_meaning.specs.Meaning.{ResultOf, selected_names, selected_values, table_names}
 
 abbrev pub RowsOf : Type 0
@@ -38,3 +39,16 @@ pub record OrderedOf : Type 0 where
   pub stored : RowsOf
   pub rows : RowsOf
   pub taken : ℕ
+
+-- the columns of rows that have these places
+abbrev pub columns_of : List ℕ → RowsOf → RowsOf
+columns_of places rows = record {
+  names = names_at places rows.names;
+  rows = map (values_at places) rows.rows;
+  count = rows.count;
+}
+
+-- rows in their order, none of which was taken, with only the columns that have these places
+pub record ShowsColumns (places : List ℕ) (old new : OrderedOf) : Type 0 where
+  pub rows_are : new.rows ≡ columns_of places old.rows
+  pub untaken : new.taken ≡ 0

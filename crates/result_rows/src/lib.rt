@@ -2,6 +2,7 @@
 //! was asked for.
 #![tactic(auto)]
 
+mod columns;
 mod cut;
 mod kept;
 mod names;

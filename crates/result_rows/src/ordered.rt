@@ -1,12 +1,14 @@
 //! Rows of an answer that are taken one after another (OData 4.01 URL Conventions, section 5.1.5).
 ghost use Rattle.std.specs.Prelude.{◌≡◌, ◌<◌, ◌+◌, [], List, IfOk, IfSome, Some, get_or, length, option_map};
+ghost use Rattle.std.specs.List.{All};
 ghost use Rattle.query_meaning.specs.Order.{Item, ordered};
 ghost use Rattle.sort_rows.specs.Runs.{AreInItemOrder};
-ghost use Rattle.result_rows.specs.Rows.{AreReordered, RowsOf};
+ghost use Rattle.result_rows.specs.Rows.{ShowsColumns, AreReordered, RowsOf};
 ghost use Rattle.result_rows.specs.Kept.{kept_names, shown_of, shown_places, AreShownOf};
 ghost use Rattle.result_rows.specs.Ordered.{places_shown, shown_rows};
 ghost use Rattle.result_rows.specs.Selected.{selected_rows};
 
+use crate::columns::columns_of;
 use crate::kept::Kept;
 use crate::rows::Rows;
 use sort_rows::SortedRows;
@@ -152,6 +154,29 @@ impl OrderedRows {
         };
         self.taken += 1;
         number
+    }
+
+    /// Returns the rows in their order with only the columns that have these places. Rows in an order that show all columns are not moved.
+    pub fn select(self, alloc: Global, places: &[usize]) -> Result<OrderedRows, AllocError>
+        requires untaken { self.taken ≡ 0 }
+        requires places { All (λ place. place < length self.rows.names) places.now }
+        ensures { IfOk result (λ made. ShowsColumns places.now self made) }
+    {
+        if self.order.is_none() || self.shown.is_some() {
+            let rows = self.into_rows(alloc)?;
+            return Ok(OrderedRows::stored(columns_of(alloc, &rows, places)?));
+        }
+        let OrderedRows { rows, order, .. } = self;
+        let shown = Shown {
+            places: Some(places.to_vec(alloc)?),
+            rows: columns_of(alloc, &rows, places)?,
+        };
+        Ok(OrderedRows {
+            rows,
+            order,
+            shown: Some(shown),
+            taken: 0,
+        })
     }
 
     /// Returns the rows in their order.

@@ -140,13 +140,6 @@ impl Rows {
         self.columns.row_ref(row)
     }
 
-    /// Keeps the number of each row by itself, so that each is found at once.
-    pub fn list(&mut self, alloc: Global) -> Result<(), AllocError>
-        ensures { self.new ≡ self.old }
-    {
-        self.columns.list(alloc)
-    }
-
     /// Returns the rows with these numbers, counted from 0, under the same names, and a count.
     pub fn with_rows(
         self,

@@ -18,4 +18,5 @@ pub mod StandLemmas
 pub mod StreamLemmas
 pub mod RunKeyLemmas
 pub mod StackLemmas
+pub mod RangeLemmas
 pub mod SeenLemmas

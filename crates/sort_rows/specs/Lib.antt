@@ -10,3 +10,4 @@ pub mod TextKeys
 pub mod Cutoffs
 pub mod Merge
 pub mod Runs
+pub mod Ranges

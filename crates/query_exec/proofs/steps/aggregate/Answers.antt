@@ -3,10 +3,11 @@ use Rattle.std.specs.List.{All}
 use Rattle.std.proofs.lemmas.List.{length-map}
 use Rattle.odata_query.specs.Aggregate.{named_view, NamedAggregateOf}
 use Rattle.aggregate_rows.specs.Gathered.{gathered_rows, lent_places}
-use Rattle.query_plan.specs.Plan.{node_names}
+use Rattle.query_plan.specs.Plan.{node_names, node_result}
 use Rattle.aggregate_rows.specs.Tallies.{FitsAll}
 use Rattle.query_exec.specs.Steps.{aggregate_node}
 use Rattle.query_exec.proofs.AggregateLemmas.{aggregate_makes, aggregates_fit, lent_fit, names_as_wide}
+use Rattle.query_exec.proofs.StepLemmas.{stored_in_order}
 use Rattle.query_exec.proofs.steps.aggregate.Goals as goal
 
 pub gathered-requires-clause-places : goal.gathered-requires-clause-places
@@ -41,4 +42,4 @@ returns c =
     let node = aggregate_node places aggregates in
     let named : map string_bytes c.in_ok-names.names.items ≡ node_names node r.names = c.in_ok-names.ensures ∙ ap (node_names node) c.names.ensures in
     let rows : c.in_ok-columns.columns.rows ≡ gathered_rows places aggregates r.rows = c.in_ok-columns.ensures.rows ∙ ap (gathered_rows places aggregates) c.columns.ensures.rows in
-    rw c.new.ensures (aggregate_makes places aggregates r _ named rows c.count.ensures)
+    stored_in_order (node_result node r) c.new.result c.stored.result (rw c.new.ensures (aggregate_makes places aggregates r _ named rows c.count.ensures)) c.stored.ensures

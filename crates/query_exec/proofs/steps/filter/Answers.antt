@@ -2,11 +2,11 @@ use Rattle.std.proofs.Common.{◌≡◌, ◌∙◌, ap, length, rules, subst}
 use Rattle.std.specs.Global.{Global}
 use Rattle.std.specs.Prelude.{Err}
 use Rattle.typed_trees.specs.TypedTree.{truth_view}
-use Rattle.query_plan.specs.Plan.{filtering, node_rows}
+use Rattle.query_plan.specs.Plan.{filtering, node_result, node_rows}
 use Rattle.row_selection.specs.Numbers.{numbers_from}
 use Rattle.sort_rows.specs.Numbers.{GivesOrder}
 use Rattle.row_columns.proofs.NumberedLaws.{all_numbered, all_within}
-use Rattle.query_exec.proofs.StepLemmas.{step_fails, step_gives}
+use Rattle.query_exec.proofs.StepLemmas.{step_fails, step_gives, stored_in_order}
 use Rattle.query_exec.proofs.steps.filter.Goals as goal
 
 pub passing_numbers-requires-clause-within : goal.passing_numbers-requires-clause-within
@@ -32,5 +32,6 @@ pub returns : goal.returns
 returns c =
     let r = c.args.input in
     let gives = rw (c.columns.ensures.rows, c.as_slice.ensures.value, c.in_ok-all.ensures, c.len.ensures) at c.in_ok-numbers.ensures.made in
-    step_gives (filtering (truth_view c.args.condition.now)) r c.in_ok-rows.rows c.in_ok-numbers.numbers.items gives
-    (rw (c.as_slice-2.ensures.value, c.count-count.ensures) at c.in_ok-rows.ensures)
+    let node = filtering (truth_view c.args.condition.now) in
+    stored_in_order (node_result node r) c.in_ok-rows.rows c.stored.result
+    (step_gives node r c.in_ok-rows.rows c.in_ok-numbers.numbers.items gives (rw (c.as_slice-2.ensures.value, c.count-count.ensures) at c.in_ok-rows.ensures)) c.stored.ensures
