@@ -1,14 +1,19 @@
 -- Sizes of rows, value by value and column by column.
-use Rattle.std.proofs.Common.{◌≡◌, ℕ, ◌+◌, ◌<◌, ◌≤◌, Bool, true, false, not, List, [], ◌∷◌, ◌++◌, Some, drop, get_or, length, map, take, refl, ap, sym, ◌∙◌, arith, length-append}
+use Rattle.std.proofs.Common.{◌≡◌, ℕ, ◌+◌, ◌^◌, ◌<◌, ◌≤◌, Bool, true, false, not, List, [], ◌∷◌, ◌++◌, Some, drop, get_or, length, map, replicate, take, refl, ap, sym, ◌∙◌, arith, length-append}
 use Rattle.std.specs.Prelude.{slice_get}
 use Rattle.std.specs.List.{All, flat_map, list_any}
-use Rattle.std.proofs.lemmas.List.{get_or_default, get_or-drop, get_or-map, get_or-take, length-drop, length-map, length-take, take_all, take_more}
+use Rattle.std.proofs.lemmas.List.{get_or_default, get_or-drop, get_or-map, get_or-replicate, get_or-take, length-drop, length-map, length-replicate, length-take, take_all, take_more}
 use Rattle.std.proofs.lemmas.List.Folds.{Any-from_list_any, list_any_at}
 use Rattle.std.proofs.lemmas.Option.{get_or_from_slice_get, slice_get-get_or, same_Some}
 use Rattle.cell_types.specs.Value.{CellValue, null}
 use Rattle.text_columns.specs.Search.{HasPart}
 use Rattle.reply_values.specs.Printed.{is_plain_text, needs_more}
 use Rattle.reply_values.specs.Size.{told}
+
+-- sizes that begin with what a row takes without its values
+pub filled : (sizes : List ℕ) (count frame k : ℕ) → sizes ≡ replicate count frame → k < length sizes → frame < 2 ^ 64 → get_or sizes k 0 ≡ told (frame + 0)
+filled sizes count frame k is inside fits =
+    omega (arith, ap (λ l. get_or l k 0) is, get_or-replicate count k frame 0 (omega (arith, inside, ap length is, length-replicate count frame)), fits)
 
 flat_push : {X : Type 0} (f : X → List ℕ) (xs : List X) (x : X) → length (flat_map f (xs ++ x ∷ [])) ≡ length (flat_map f xs) + length (f x)
 flat_push f [] x = omega (arith, length-append (f x) [])

@@ -1,15 +1,9 @@
 -- Sizes to which others are added.
-use Rattle.std.specs.Prelude.{◌≡◌, ◌+◌, ◌<◌, ℕ, zero, suc, Bool, List, [], IsTrue, get_or, length}
+use Rattle.std.specs.Prelude.{◌≡◌, ◌+◌, ◌<◌, ℕ, Bool, List, [], IsTrue, get_or, length}
 use Rattle.std.specs.List.{flat_map}
-use Rattle.cell_texts.specs.declared.row_sizes.Frame.{Frame}
 use Rattle.cell_types.specs.Value.{CellValue, null, text as text_cell}
 use Rattle.reply_values.specs.Printed.{is_plain_text}
 use Rattle.reply_values.specs.Size.{told}
-
--- how many bytes the row with a number takes without its values
-abbrev pub frame_at : Frame → ℕ → ℕ
-frame_at frame zero = frame.first
-frame_at frame (suc row) = frame.first + frame.more
 
 -- to each size is added that of the text of its cell
 pub record AreCellsCounted (text : CellValue → List ℕ) (cells : List CellValue) (old new : List ℕ) : Type 0 where
@@ -28,7 +22,7 @@ IsPlainCell json cell = (t : List ℕ) → cell ≡ text_cell t → IsTrue (is_p
 abbrev pub ArePlainCells : Bool → List CellValue → Type 0
 ArePlainCells json cells = (i : ℕ) → i < length cells → IsPlainCell json (get_or cells i null)
 
--- these are the sizes of the rows from one on, with their frames
-abbrev pub AreRowsCounted : (CellValue → List ℕ) → List (List CellValue) → ℕ → Frame → List ℕ → Type 0
+-- these are the sizes of the rows from one on, each of which takes `frame` bytes without its values
+abbrev pub AreRowsCounted : (CellValue → List ℕ) → List (List CellValue) → ℕ → ℕ → List ℕ → Type 0
 AreRowsCounted text rows first frame sizes =
-    (i : ℕ) → i < length sizes → get_or sizes i 0 ≡ told (frame_at frame (first + i) + length (flat_map text (get_or rows (first + i) [])))
+    (i : ℕ) → i < length sizes → get_or sizes i 0 ≡ told (frame + length (flat_map text (get_or rows (first + i) [])))

@@ -10,5 +10,5 @@ mod sizes;
 mod turns;
 
 pub use put::put_cell;
-pub use row_sizes::{Frame, put_sizes, row_room};
+pub use row_sizes::{put_sizes, row_room};
 pub use turns::RowTurns;

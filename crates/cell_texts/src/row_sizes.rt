@@ -2,33 +2,13 @@
 ghost use Rattle.std.specs.Prelude.{◌≡◌, ◌+◌, ◌<◌, ◌≤◌, ℕ, [], get_or, length};
 ghost use Rattle.std.specs.List.{flat_map};
 ghost use Rattle.cell_types.specs.Value.{null};
-ghost use Rattle.cell_texts.specs.Sizes.{frame_at, AreRowsCounted};
+ghost use Rattle.cell_texts.specs.Sizes.{AreRowsCounted};
 ghost use Rattle.reply_values.specs.Printed.{printed_value};
 ghost use Rattle.reply_values.specs.Size.{told};
 
 use crate::part_sizes::add_cells;
 use crate::sizes::{cell_room, cell_size};
 use row_columns::Columns;
-
-/// How many bytes a row takes without its values: the first row, and how many more each other one.
-#[derive(Clone, Copy, Drop)]
-pub struct Frame {
-    pub first: usize,
-    pub more: usize,
-}
-
-impl Frame {
-    /// Returns how many bytes the row with a number takes without its values.
-    pub fn at(self, row: usize) -> usize
-        ensures { result ≡ told (frame_at self row) }
-    {
-        if row == 0 {
-            self.first
-        } else {
-            self.first.saturating_add(self.more)
-        }
-    }
-}
 
 /// Returns a number of bytes that `start` and the values of the row with a number do not pass. No text is looked at.
 pub fn row_room<const JSON: bool>(columns: &Columns, row: usize, start: usize) -> usize
@@ -63,11 +43,11 @@ fn add_far_cells<const JSON: bool>(columns: &Columns, first: usize, col: usize, 
     }
 }
 
-/// Writes the size of each of as many rows from `first` on as there are places, with the frame of the row.
+/// Writes the size of each of as many rows from `first` on as there are places: `frame` bytes, and those of its values.
 pub fn put_sizes<const JSON: bool>(
     columns: &Columns,
     first: usize,
-    frame: Frame,
+    frame: usize,
     sizes: &mut [usize],
 )
     requires { first + length sizes.old ≤ length columns.now.rows }
@@ -76,9 +56,7 @@ pub fn put_sizes<const JSON: bool>(
 {
     columns.rows_are_wide();
     let _rows = columns.len(); // each row has a number that fits
-    for i in 0..sizes.len() {
-        sizes[i] = frame.at(first + i);
-    }
+    sizes.fill(frame);
     match columns.block_rows(first, sizes.len()) {
         Some(rows) => {
             for col in 0..columns.width() {

@@ -118,8 +118,8 @@ counted_csv Csv old new rows names first is begin counts has = (max has.0 (lengt
 
 -- sizes of rows as they come are those of rows in order
 pub reordered_sizes : (format : Format) (sizes : RowSizes) (before rows : RowsOf) → AreReordered before rows → HaveFirstSizes format sizes before → HaveSizesIn format sizes rows
-reordered_sizes Json sizes before rows moved has = (has.0, before, moved, has.1)
-reordered_sizes Csv sizes before rows moved has = (has.0, before, moved, has.1)
+reordered_sizes Json sizes before rows moved has = (has.0, before, moved, has.1.0, has.1.1)
+reordered_sizes Csv sizes before rows moved has = (has.0, before, moved, has.1.0, has.1.1)
 
 -- ---- a run that begins
 

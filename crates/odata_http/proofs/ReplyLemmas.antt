@@ -1,5 +1,5 @@
 -- Replies put together from their parts.
-use Rattle.std.proofs.Common.{◌≡◌, ℕ, Bool, Option, Some, None, if◌then◌else◌, List, ◌++◌, Result, Ok, Err, OnOk, IfOk, is_ok, length, append_assoc, refl, sym, ap, ◌∙◌}
+use Rattle.std.proofs.Common.{◌≡◌, ℕ, Bool, true, Option, Some, None, if◌then◌else◌, List, ◌++◌, Result, Ok, Err, OnOk, IfOk, is_ok, length, append_assoc, refl, sym, ap, ◌∙◌}
 use Rattle.table_store.specs.Catalog.{CatalogOf}
 use Rattle.table_store.specs.Table.{TableOf}
 use Rattle.odata_http.specs.declared.media.Media.{Media}
@@ -29,6 +29,11 @@ pub two_parts : {X E : Type 0} (view : X → List ℕ) (r : Result X E) (head bo
     → IfOk r (λ x. view x ≡ reply_with method status media content closing)
 two_parts view (Ok x) head body method content status size media closing all first counted second = rw (all, first, counted, second) refl
 two_parts view (Err e) head body method content status size media closing all first counted second = tt
+
+-- and one to no method, which has its body, and closes
+pub rest_written : (head slice content : List ℕ) (status size : ℕ) (media : Media) → head ≡ reply_lines status media size true → size ≡ length content → slice ≡ content
+    → head ++ slice ≡ reply_with None status media content true
+rest_written head slice content status size media lines counted is = rw (lines, counted, is) refl
 
 response_one : (catalog : CatalogOf) (request : RequestOf) (r s : ResponseOf) → RespondsWith catalog request r → RespondsWith catalog request s → r ≡ s
 response_one catalog (refused code) r s h k = h ∙ sym k

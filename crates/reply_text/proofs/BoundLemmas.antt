@@ -3,6 +3,7 @@ use Rattle.std.proofs.Common.{◌≡◌, ℕ, zero, suc, ◌+◌, ◌<◌, ◌�
 use Rattle.std.specs.Prelude.{max}
 use Rattle.std.specs.List.{AllByRecursion, concat}
 use Rattle.std.proofs.lemmas.List.{append-nil, drop_more, take_more}
+use Rattle.std.proofs.lemmas.List.Elements.{All-from_recursion}
 use Rattle.std.proofs.lemmas.List.Folds.{concat-append}
 use Rattle.reply_text.specs.Pieces.{longest_of, AreSizesOf}
 use Rattle.reply_values.specs.Size.{told}
@@ -36,24 +37,32 @@ pieces_within (piece ∷ pieces) most bound = (omega (arith, bound), pieces_with
 
 -- ---- the next of them
 
-pub some_left : (pieces : List (List ℕ)) (next : ℕ) → 0 < length (concat (drop next pieces)) → next < length pieces
+-- the next piece is there, and after it what is left
+pub record IsNext (pieces : List (List ℕ)) (next most size : ℕ) : Type 0 where
+  pub inside : next < length pieces
+  pub some : 0 < length (get_or pieces next [])
+  pub within : length (get_or pieces next []) ≤ most
+  pub left : concat (drop next pieces) ≡ get_or pieces next [] ++ concat (drop (next + 1) pieces)
+  pub long : size ≡ length (get_or pieces next []) + length (concat (drop (next + 1) pieces))
+
+some_left : (pieces : List (List ℕ)) (next : ℕ) → 0 < length (concat (drop next pieces)) → next < length pieces
 some_left [] zero some = absurd (omega (arith, some))
 some_left [] (suc next) some = absurd (omega (arith, some))
 some_left (piece ∷ pieces) zero some = omega arith
 some_left (piece ∷ pieces) (suc next) some = omega (arith, some_left pieces next some)
 
-pub next_left : (pieces : List (List ℕ)) (next : ℕ) → next < length pieces → concat (drop next pieces) ≡ get_or pieces next [] ++ concat (drop (next + 1) pieces)
-next_left pieces next inside = ap concat (drop_more pieces next [] inside)
-
-pub next_within : (most : ℕ) (pieces : List (List ℕ)) (next : ℕ) → AllByRecursion (λ piece. length piece ≤ most) pieces → next < length pieces → length (get_or pieces next []) ≤ most
-next_within most [] next all inside = absurd (omega (arith, inside))
-next_within most (piece ∷ pieces) zero all inside = all.0
-next_within most (piece ∷ pieces) (suc next) all inside = next_within most pieces next all.1 (omega (arith, inside))
-
-pub next_some : (pieces : List (List ℕ)) (next : ℕ) → AllByRecursion (λ piece. 0 < length piece) pieces → next < length pieces → 0 < length (get_or pieces next [])
-next_some [] next all inside = absurd (omega (arith, inside))
-next_some (piece ∷ pieces) zero all inside = all.0
-next_some (piece ∷ pieces) (suc next) all inside = next_some pieces next all.1 (omega (arith, inside))
+pub next_is : (pieces : List (List ℕ)) (next most size : ℕ) → AllByRecursion (λ piece. 0 < length piece) pieces → AllByRecursion (λ piece. length piece ≤ most) pieces
+    → size ≡ length (concat (drop next pieces)) → (size ≡ 0 → ⊥) → IsNext pieces next most size
+next_is pieces next most size filled within is some =
+    let inside = some_left pieces next (omega (arith, is, some)) in
+    let left = ap concat (drop_more pieces next [] inside) in
+    record {
+      inside = inside;
+      some = All-from_recursion (λ (piece : List ℕ). 0 < length piece) pieces filled next [] inside;
+      within = All-from_recursion (λ (piece : List ℕ). length piece ≤ most) pieces within next [] inside;
+      left = left;
+      long = omega (arith, is, ap length left, length-append (get_or pieces next []) (concat (drop (next + 1) pieces)));
+    }
 
 -- where none is empty there are no more of them than bytes
 pub pieces_few : (pieces : List (List ℕ)) → AllByRecursion (λ piece. 0 < length piece) pieces → length pieces ≤ length (concat pieces)

@@ -6,7 +6,7 @@ use Rattle.std.proofs.lemmas.List.{length-map, length-take, length-take-le, map_
 use Rattle.std.proofs.lemmas.List.Concat.{concat_is}
 use Rattle.std.proofs.lemmas.List.Folds.{flat_map-map}
 use Rattle.reply_text.specs.Json.{comma_before, json_count}
-use Rattle.reply_values.specs.Json.{json_text}
+use Rattle.reply_values.specs.Printed.{json_text}
 
 pub comma_after : (place : ℕ) → comma_before (suc place) ≡ 44 ∷ []
 comma_after place = grind (arith, tests)

@@ -2,63 +2,59 @@
 use Rattle.std.proofs.Common.{◌≡◌, ℕ, zero, suc, ◌+◌, ◌-◌, ◌<◌, ◌≤◌, Bool, true, false, List, [], ◌∷◌, ◌++◌, codes, get_or, length, map, take, refl, sym, ap, ◌∙◌, arith, append_assoc, append-nil, length-append}
 use Rattle.std.specs.Prelude.{if◌then◌else◌}
 use Rattle.std.specs.List.{AllByRecursion, concat, flat_map, join_with_byte}
-use Rattle.std.proofs.lemmas.List.{get_or-append_right, get_or_append_left, take_all, take_more}
+use Rattle.std.proofs.lemmas.List.{get_or-append_right, get_or-map, get_or_append_left, length-map, take_all, take_more}
 use Rattle.std.proofs.lemmas.List.Folds.{concat-append}
 use Rattle.cell_types.specs.Value.{CellValue}
 use Rattle.result_rows.specs.Rows.{OrderedOf, RowsOf}
 use Rattle.reply_text.specs.declared.pieces.Pieces.{Pieces}
 use Rattle.reply_text.specs.declared.pieces.Pieces.TheVariants.{Rows, Bytes}
 use Rattle.reply_text.specs.Csv.{csv_line, row_line}
-use Rattle.reply_text.specs.Inside.{byte_pieces, cursor_pieces}
 use Rattle.reply_text.specs.Json.{comma_before, json_count, json_row}
-use Rattle.reply_text.specs.Pieces.{body_pieces, body_text, opening_text, printed_row, row_piece, row_pieces}
-use Rattle.reply_values.specs.Json.{json_text}
-use Rattle.reply_values.specs.Printed.{csv_value}
-use Rattle.reply_text.proofs.JoinLemmas.{comma_after, concat_front, join_is}
+use Rattle.reply_text.specs.Pieces.{body_pieces, body_text, byte_pieces, cursor_pieces, opening_text, printed_row, row_piece, row_pieces}
+use Rattle.reply_values.specs.Printed.{json_text, printed_value}
+use Rattle.reply_text.proofs.JoinLemmas.{comma_after, concat_front, flat_is_concat, join_is}
 
 abbrev pub end_pieces : Bool → List (List ℕ)
 end_pieces json = if json then codes "]}" ∷ [] else []
 
 -- ---- which is at a place
 
-pub rows_count : (json : Bool) (names : List (List ℕ)) (place : ℕ) (rows : List (List CellValue)) → length (row_pieces json names place rows) ≡ length rows
-rows_count json names place [] = refl
-rows_count json names place (row ∷ rows) = ap suc (rows_count json names (suc place) rows)
-
-row_at : (json : Bool) (names : List (List ℕ)) (place : ℕ) (rows : List (List CellValue)) (n : ℕ) → n < length rows
-    → get_or (row_pieces json names place rows) n [] ≡ row_piece json names (place + n) (get_or rows n [])
-row_at json names place [] n inside = absurd (omega (arith, inside))
-row_at json names place (row ∷ rows) zero inside = let same : place ≡ place + 0 = omega arith in ap (λ k. row_piece json names k row) same
-row_at json names place (row ∷ rows) (suc n) inside =
-    let same : suc place + n ≡ place + suc n = omega arith in
-    row_at json names (suc place) rows n (omega (arith, inside)) ∙ ap (λ k. row_piece json names k (get_or rows n [])) same
+pub rows_count : (json : Bool) (names : List (List ℕ)) (rows : List (List CellValue)) → length (row_pieces json names rows) ≡ length rows
+rows_count json names [] = refl
+rows_count json names (row ∷ rows) = ap suc (length-map rows (row_piece json names 1))
 
 pub row_is_at : (json : Bool) (names : List (List ℕ)) (rows : List (List CellValue)) (n : ℕ) → n < length rows
-    → get_or (row_pieces json names 0 rows) n [] ≡ row_piece json names n (get_or rows n [])
-row_is_at json names rows n inside = let same : 0 + n ≡ n = omega arith in row_at json names 0 rows n inside ∙ ap (λ k. row_piece json names k (get_or rows n [])) same
+    → get_or (row_pieces json names rows) n [] ≡ row_piece json names n (get_or rows n [])
+row_is_at json names [] n inside = absurd (omega (arith, inside))
+row_is_at json names (row ∷ rows) zero inside = refl
+row_is_at json names (row ∷ rows) (suc n) inside = get_or-map (row_piece json names 1) rows n [] [] (omega (arith, inside)) ∙ later json
+  where
+    later : (json : Bool) → row_piece json names 1 (get_or rows n []) ≡ row_piece json names (suc n) (get_or rows n [])
+    later true = ap (λ comma. comma ++ json_row names (get_or rows n [])) (sym (comma_after n))
+    later false = refl
 
 -- the same by the number of the piece
-piece_is : (json : Bool) (rows : RowsOf) (number : ℕ) → 0 < number → get_or (body_pieces json rows) number [] ≡ get_or (row_pieces json rows.names 0 rows.rows ++ end_pieces json) (number - 1) []
+piece_is : (json : Bool) (rows : RowsOf) (number : ℕ) → 0 < number → get_or (body_pieces json rows) number [] ≡ get_or (row_pieces json rows.names rows.rows ++ end_pieces json) (number - 1) []
 piece_is json rows zero some = absurd (omega (arith, some))
-piece_is json rows (suc number) some = let same : number ≡ suc number - 1 = omega arith in ap (λ n. get_or (row_pieces json rows.names 0 rows.rows ++ end_pieces json) n []) same
+piece_is json rows (suc number) some = let same : number ≡ suc number - 1 = omega arith in ap (λ n. get_or (row_pieces json rows.names rows.rows ++ end_pieces json) n []) same
 
 pub row_number : (json : Bool) (rows : RowsOf) (number : ℕ) → 0 < number → number - 1 < length rows.rows
     → get_or (body_pieces json rows) number [] ≡ row_piece json rows.names (number - 1) (get_or rows.rows (number - 1) [])
 row_number json rows number some inside =
-    let all = row_pieces json rows.names 0 rows.rows in
-    piece_is json rows number some ∙ get_or_append_left all (end_pieces json) [] (number - 1) (omega (arith, inside, rows_count json rows.names 0 rows.rows))
+    let all = row_pieces json rows.names rows.rows in
+    piece_is json rows number some ∙ get_or_append_left all (end_pieces json) [] (number - 1) (omega (arith, inside, rows_count json rows.names rows.rows))
     ∙ row_is_at json rows.names rows.rows (number - 1) inside
 
 count : (json : Bool) (rows : RowsOf) → length (body_pieces json rows) ≡ suc (length rows.rows + length (end_pieces json))
-count json rows = omega (arith, rows_count json rows.names 0 rows.rows, length-append (row_pieces json rows.names 0 rows.rows) (end_pieces json))
+count json rows = omega (arith, rows_count json rows.names rows.rows, length-append (row_pieces json rows.names rows.rows) (end_pieces json))
 
 pub last_number : (json : Bool) (rows : RowsOf) (number : ℕ) → 0 < number → length rows.rows ≤ number - 1 → number < length (body_pieces json rows)
     → get_or (body_pieces json rows) number [] ≡ codes "]}"
 last_number false rows number some past inside = absurd (omega (arith, some, past, inside, count false rows))
 last_number true rows number some past inside =
-    let all = row_pieces true rows.names 0 rows.rows in
+    let all = row_pieces true rows.names rows.rows in
     let none : number - 1 - length rows.rows ≡ 0 = omega (arith, past, inside, count true rows) in
-    piece_is true rows number some ∙ get_or-append_right all (end_pieces true) (length rows.rows) (number - 1) [] (rows_count true rows.names 0 rows.rows) past
+    piece_is true rows number some ∙ get_or-append_right all (end_pieces true) (length rows.rows) (number - 1) [] (rows_count true rows.names rows.rows) past
     ∙ ap (λ n. get_or (end_pieces true) n []) none
 
 -- one that is neither the first nor the last is a row
@@ -90,21 +86,27 @@ AreSome pieces = AllByRecursion (λ piece. 0 < length piece) pieces
 
 pub some_row : (json : Bool) (names : List (List ℕ)) (values : List CellValue) → 0 < length (printed_row json names values)
 some_row true names values = omega arith
-some_row false names values = omega (arith, length-append (join_with_byte 44 (map csv_value values)) (13 ∷ 10 ∷ []))
+some_row false names values = omega (arith, length-append (join_with_byte 44 (map (printed_value false) values)) (13 ∷ 10 ∷ []))
 
-some_rows : (json : Bool) (names : List (List ℕ)) (place : ℕ) (rows : List (List CellValue)) → AreSome (row_pieces json names place rows)
-some_rows json names place [] = tt
-some_rows json names place (row ∷ rows) =
-    (omega (arith, length-append (comma_before (if json then place else 0)) (printed_row json names row), some_row json names row), some_rows json names (suc place) rows)
+some_piece : (json : Bool) (names : List (List ℕ)) (place : ℕ) (row : List CellValue) → 0 < length (row_piece json names place row)
+some_piece json names place row = omega (arith, length-append (comma_before (if json then place else 0)) (printed_row json names row), some_row json names row)
+
+some_later : (json : Bool) (names : List (List ℕ)) (rows : List (List CellValue)) → AreSome (map (row_piece json names 1) rows)
+some_later json names [] = tt
+some_later json names (row ∷ rows) = (some_piece json names 1 row, some_later json names rows)
+
+some_rows : (json : Bool) (names : List (List ℕ)) (rows : List (List CellValue)) → AreSome (row_pieces json names rows)
+some_rows json names [] = tt
+some_rows json names (row ∷ rows) = (some_piece json names 0 row, some_later json names rows)
 
 some_append : (front back : List (List ℕ)) → AreSome front → AreSome back → AreSome (front ++ back)
 some_append [] back first rest = rest
 some_append (piece ∷ front) back first rest = (first.0, some_append front back first.1 rest)
 
 pub some_body : (json : Bool) (rows : RowsOf) → AreSome (body_pieces json rows)
-some_body true rows = (omega arith, some_append (row_pieces true rows.names 0 rows.rows) (end_pieces true) (some_rows true rows.names 0 rows.rows) (omega arith, tt))
+some_body true rows = (omega arith, some_append (row_pieces true rows.names rows.rows) (end_pieces true) (some_rows true rows.names rows.rows) (omega arith, tt))
 some_body false rows =
-    (omega (arith, length-append (join_with_byte 44 rows.names) (13 ∷ 10 ∷ [])), some_append (row_pieces false rows.names 0 rows.rows) [] (some_rows false rows.names 0 rows.rows) tt)
+    (omega (arith, length-append (join_with_byte 44 rows.names) (13 ∷ 10 ∷ [])), some_append (row_pieces false rows.names rows.rows) [] (some_rows false rows.names rows.rows) tt)
 
 some_bytes : (bytes : List ℕ) → AreSome (byte_pieces bytes)
 some_bytes [] = tt
@@ -120,51 +122,45 @@ opening_same false one two names count = ap csv_line names
 
 -- ---- all of them
 
-objects : (names : List (List ℕ)) (place : ℕ) (rows : List (List CellValue)) → concat (row_pieces true names (suc place) rows) ≡ flat_map (λ row. 44 ∷ json_row names row) rows
-objects names place [] = refl
-objects names place (row ∷ rows) =
-    ap (λ comma. (comma ++ json_row names row) ++ concat (row_pieces true names (suc (suc place)) rows)) (comma_after place)
-    ∙ ap (λ l. 44 ∷ (json_row names row ++ l)) (objects names (suc place) rows)
-
-all_objects : (names : List (List ℕ)) (rows : List (List CellValue)) → concat (row_pieces true names 0 rows) ≡ join_with_byte 44 (map (json_row names) rows)
+all_objects : (names : List (List ℕ)) (rows : List (List CellValue)) → concat (row_pieces true names rows) ≡ join_with_byte 44 (map (json_row names) rows)
 all_objects names [] = refl
-all_objects names (row ∷ rows) = ap (λ l. json_row names row ++ l) (objects names 0 rows) ∙ sym (join_is (json_row names) row rows)
+all_objects names (row ∷ rows) = ap (λ l. json_row names row ++ l) (flat_is_concat (row_piece true names 1) rows) ∙ sym (join_is (json_row names) row rows)
 
-all_lines : (names : List (List ℕ)) (place : ℕ) (rows : List (List CellValue)) → concat (row_pieces false names place rows) ≡ flat_map row_line rows
-all_lines names place [] = refl
-all_lines names place (row ∷ rows) = ap (λ l. row_line row ++ l) (all_lines names (suc place) rows)
+all_lines : (names : List (List ℕ)) (rows : List (List CellValue)) → concat (row_pieces false names rows) ≡ flat_map row_line rows
+all_lines names [] = refl
+all_lines names (row ∷ rows) = ap (λ l. row_line row ++ l) (flat_is_concat (row_piece false names 1) rows)
 
 pub body_is_pieces : (json : Bool) (rows : RowsOf) → concat (body_pieces json rows) ≡ body_text json rows
 body_is_pieces true rows =
-    let all = row_pieces true rows.names 0 rows.rows in
+    let all = row_pieces true rows.names rows.rows in
     ap (λ l. opening_text true rows ++ l) (concat-append all (end_pieces true) ∙ ap (λ l. l ++ codes "]}") (all_objects rows.names rows.rows))
     ∙ sym (append_assoc (opening_text true rows) (join_with_byte 44 (map (json_row rows.names) rows.rows)) (codes "]}"))
 body_is_pieces false rows =
-    ap (λ l. opening_text false rows ++ l) (ap concat (append-nil (row_pieces false rows.names 0 rows.rows)) ∙ all_lines rows.names 0 rows.rows)
+    ap (λ l. opening_text false rows ++ l) (ap concat (append-nil (row_pieces false rows.names rows.rows)) ∙ all_lines rows.names rows.rows)
 
 -- ---- a body that is written until there are too many bytes
 
-pub rows_more : (json : Bool) (names : List (List ℕ)) (rows : List (List CellValue)) (start before after : List ℕ) (n : ℕ) → before ≡ start ++ concat (take n (row_pieces json names 0 rows))
-    → n < length rows → after ≡ before ++ row_piece json names n (get_or rows n []) → after ≡ start ++ concat (take (n + 1) (row_pieces json names 0 rows))
+pub rows_more : (json : Bool) (names : List (List ℕ)) (rows : List (List CellValue)) (start before after : List ℕ) (n : ℕ) → before ≡ start ++ concat (take n (row_pieces json names rows))
+    → n < length rows → after ≡ before ++ row_piece json names n (get_or rows n []) → after ≡ start ++ concat (take (n + 1) (row_pieces json names rows))
 rows_more json names rows start before after n so_far within is =
-    let pieces = row_pieces json names 0 rows in
+    let pieces = row_pieces json names rows in
     let front = concat (take n pieces) in
     let next = get_or pieces n [] in
     let all : concat (take (n + 1) pieces) ≡ front ++ next =
-    ap concat (take_more pieces n [] (omega (arith, within, rows_count json names 0 rows))) ∙ concat-append (take n pieces) (next ∷ []) ∙ ap (λ l. front ++ l) (append-nil next) in
+    ap concat (take_more pieces n [] (omega (arith, within, rows_count json names rows))) ∙ concat-append (take n pieces) (next ∷ []) ∙ ap (λ l. front ++ l) (append-nil next) in
     is ∙ ap (λ l. l ++ row_piece json names n (get_or rows n [])) so_far ∙ append_assoc start front (row_piece json names n (get_or rows n []))
     ∙ ap (λ l. start ++ (front ++ l)) (sym (row_is_at json names rows n within)) ∙ ap (λ l. start ++ l) (sym all)
 
-pub body_whole : (json : Bool) (rows : RowsOf) (n : ℕ) → length rows.rows ≤ n → (opening_text json rows ++ concat (take n (row_pieces json rows.names 0 rows.rows))) ++ concat (end_pieces json) ≡ body_text json rows
+pub body_whole : (json : Bool) (rows : RowsOf) (n : ℕ) → length rows.rows ≤ n → (opening_text json rows ++ concat (take n (row_pieces json rows.names rows.rows))) ++ concat (end_pieces json) ≡ body_text json rows
 body_whole json rows n all =
-    let pieces = row_pieces json rows.names 0 rows.rows in
+    let pieces = row_pieces json rows.names rows.rows in
     append_assoc (opening_text json rows) (concat (take n pieces)) (concat (end_pieces json))
-    ∙ ap (λ l. opening_text json rows ++ (concat l ++ concat (end_pieces json))) (take_all n pieces (omega (arith, all, rows_count json rows.names 0 rows.rows)))
+    ∙ ap (λ l. opening_text json rows ++ (concat l ++ concat (end_pieces json))) (take_all n pieces (omega (arith, all, rows_count json rows.names rows.rows)))
     ∙ ap (λ l. opening_text json rows ++ l) (sym (concat-append pieces (end_pieces json))) ∙ body_is_pieces json rows
 
-pub body_long : (json : Bool) (rows : RowsOf) (n : ℕ) → length (opening_text json rows ++ concat (take n (row_pieces json rows.names 0 rows.rows))) ≤ length (body_text json rows)
+pub body_long : (json : Bool) (rows : RowsOf) (n : ℕ) → length (opening_text json rows ++ concat (take n (row_pieces json rows.names rows.rows))) ≤ length (body_text json rows)
 body_long json rows n =
-    let pieces = row_pieces json rows.names 0 rows.rows in
+    let pieces = row_pieces json rows.names rows.rows in
     omega (
       arith,
       length-append (opening_text json rows) (concat (take n pieces)),

@@ -1,27 +1,10 @@
 -- The texts of JSON trees, as the kit's `json` prints their tokens.
-use Rattle.std.proofs.Common.{◌≡◌, ℕ, Bool, true, false, List, [], ◌∷◌, ◌++◌, refl, sym, ap, ap₂, ◌∙◌, arith, append_assoc, append-nil, tests}
+use Rattle.std.proofs.Common.{◌≡◌, ℕ, Bool, true, false, List, [], ◌∷◌, ◌++◌, refl, sym, ap, ◌∙◌, append_assoc, append-nil}
 use Rattle.std.specs.Prelude.{codes, if◌then◌else◌}
-use Rattle.std.specs.List.{flat_map}
 use Rattle.json.specs.Token.{Token}
-use Rattle.json.specs.Print.{escape, escape_byte, print, print_from, quoted}
+use Rattle.json.specs.Print.{print, print_from, quoted}
 use Rattle.json.specs.Json as json
 use Rattle.json.specs.Tree.{json_tokens, items_tokens, members_tokens}
-use Rattle.reply_values.specs.Json.{json_escaped, json_text}
-
--- ---- texts in quotes
-
-same_escape : (x : ℕ) → json_escaped x ≡ escape_byte x
-unfolding escape_byte
-same_escape x = grind (arith, tests)
-
-same_escapes : (s : List ℕ) → flat_map json_escaped s ≡ escape s
-same_escapes [] = refl
-same_escapes (x ∷ s) = ap₂ (λ a b. a ++ b) (same_escape x) (same_escapes s)
-
-pub text_is_quoted : (s : List ℕ) → json_text s ≡ quoted s
-text_is_quoted s = ap (λ inside. 34 ∷ (inside ++ 34 ∷ [])) (same_escapes s)
-
--- ---- the text of a tree
 
 -- a comma, where something stands before
 abbrev comma_if : Bool → List ℕ

@@ -1,19 +1,16 @@
 -- A row, value by value.
-use Rattle.std.proofs.Common.{◌≡◌, ◌<◌, ◌≤◌, ℕ, zero, suc, ◌+◌, ◌-◌, Bool, true, false, List, [], ◌∷◌, ◌++◌, Some, Vec, codes, get_or, length, map, take, refl, sym, ap, ◌∙◌, arith, append_assoc, length-append, tests, IsTrue}
+use Rattle.std.proofs.Common.{◌≡◌, ◌<◌, ◌≤◌, ℕ, zero, suc, ◌+◌, ◌-◌, Bool, true, false, List, [], ◌∷◌, ◌++◌, Some, Vec, codes, get_or, length, map, take, refl, sym, ap, ◌∙◌, arith, append_assoc, append-nil, length-append, tests, IsTrue}
 use Rattle.std.specs.Prelude.{◌==◌, if◌then◌else◌, not, slice_get}
 use Rattle.std.specs.List.{concat, flat_map, join_with_byte, zip}
 use Rattle.std.proofs.lemmas.List.{get_or-map, get_or_default, length-map, length-take-le, take_all, take_more}
 use Rattle.std.proofs.lemmas.Option.{get_or_from_slice_get}
 use Rattle.std.proofs.lemmas.Slice.Zip.{get_or-zip, length-zip}
 use Rattle.cell_types.specs.Value.{CellValue}
-use Rattle.reply_text.specs.Inside.{value_head, AreHeads}
 use Rattle.reply_text.specs.Json.{comma_before, json_member}
-use Rattle.reply_text.specs.Pieces.{printed_row, row_piece}
+use Rattle.reply_text.specs.Pieces.{printed_row, row_piece, value_head, AreHeads}
 use Rattle.reply_text.specs.RowSizes.{labels_size, IsRowFrame}
-use Rattle.reply_values.specs.Json.{json_text}
-use Rattle.reply_values.specs.Printed.{csv_value, json_value, printed_value}
+use Rattle.reply_values.specs.Printed.{json_text, printed_value}
 use Rattle.reply_values.specs.Size.{told, IsWrittenAt}
-use Rattle.cell_texts.specs.declared.row_sizes.Frame.{Frame}
 use Rattle.reply_text.proofs.JoinLemmas.{comma_after, flat_is_concat, join_front, join_more, length-join}
 
 -- ---- texts that are written one after another
@@ -28,7 +25,7 @@ put_then old mid new at between to one two first second = record {
 -- ---- the parts of a row
 
 abbrev pub members : Bool → List (List ℕ) → List CellValue → List (List ℕ)
-members json names values = if json then map json_member (zip names values) else map csv_value values
+members json names values = if json then map json_member (zip names values) else map (printed_value false) values
 
 abbrev pub before_values : Bool → List ℕ
 before_values json = if json then codes "{" else []
@@ -43,7 +40,7 @@ row_is false names values = refl
 
 pub members_count : (json : Bool) (names : List (List ℕ)) (values : List CellValue) → (IsTrue json → length values ≡ length names) → length (members json names values) ≡ length values
 members_count true names values wide = omega (arith, length-map (zip names values) json_member, length-zip names values, wide refl)
-members_count false names values wide = length-map values csv_value
+members_count false names values wide = length-map values (printed_value false)
 
 -- where each value is written
 pub row_ends : (json : Bool) (names : List (List ℕ)) (values : List CellValue) (k : ℕ) → length values ≡ length names → length names ≤ k
@@ -52,47 +49,49 @@ row_ends json names values k wide past =
     row_is json names values
     ∙ ap (λ all. (before_values json ++ join_with_byte 44 all) ++ after_values json) (sym (take_all k (members json names values) (omega (arith, members_count json names values (λ is_json. wide), wide, past))))
 
-regroup : (b t k v : List ℕ) → b ++ (t ++ k ++ v) ≡ (b ++ t ++ k) ++ v
-regroup b t k v = simp append_assoc
+-- what comes before a value, as it is kept
+pub head_is : {A : Type 0} (json : Bool) (names : List (List ℕ)) (heads : List (Vec ℕ A)) (col : ℕ) (head : Vec ℕ A) (bytes : List ℕ) → AreHeads json names heads → col < length names
+    → head ≡ get_or heads col head → bytes ≡ head.items → bytes ≡ value_head json names col
+head_is json names heads col head bytes are inside is kept =
+    kept ∙ ap (λ h. h.items) is ∙ sym (get_or-map (λ h. h.items) heads col head [] (omega (arith, are.count, inside))) ∙ are.heads_are col inside
 
 -- a value after what comes before it
-member_at : {A : Type 0} (json : Bool) (names : List (List ℕ)) (values : List CellValue) (heads : List (Vec ℕ A)) (col : ℕ) (value : CellValue) → AreHeads json names heads
-    → length values ≡ length names → col < length names → get_or values col value ≡ value
-    → comma_before col ++ get_or (members json names values) col [] ≡ value_head json heads col ++ printed_value json value
-member_at true names values heads col value are wide inside is =
+member_at : (json : Bool) (names : List (List ℕ)) (values : List CellValue) (col : ℕ) (value : CellValue) → length values ≡ length names → col < length names → get_or values col value ≡ value
+    → comma_before col ++ get_or (members json names values) col [] ≡ value_head json names col ++ printed_value json value
+member_at true names values col value wide inside is =
     let name = get_or names col [] in
     let pair : List ℕ → CellValue → List ℕ × CellValue = λ n v. (n, v) in
     let at : get_or (zip names values) col (name, value) ≡ (name, value) =
     get_or-zip names values col (name, value) inside (omega (arith, wide, inside)) ∙ ap (λ n. pair n (get_or values col value)) (sym (get_or_default names col [] name inside)) ∙ ap (pair name) is in
     let there : get_or (map json_member (zip names values)) col [] ≡ json_member (name, value) =
     get_or-map json_member (zip names values) col (name, value) [] (omega (arith, length-zip names values, wide, inside)) ∙ ap json_member at in
-    ap (λ l. comma_before col ++ l) there ∙ regroup (comma_before col) (json_text name) (codes ":") (json_value value) ∙ ap (λ l. l ++ json_value value) (sym (are.heads_are refl col inside))
-member_at false names values heads col value are wide inside is =
-    ap (λ l. comma_before col ++ l) (get_or-map csv_value values col value [] (omega (arith, wide, inside)) ∙ ap csv_value is)
+    ap (λ l. comma_before col ++ l) there ∙ sym (append_assoc (comma_before col) (json_text name ++ codes ":") (printed_value true value))
+member_at false names values col value wide inside is =
+    ap (λ l. comma_before col ++ l) (get_or-map (printed_value false) values col value [] (omega (arith, wide, inside)) ∙ ap (printed_value false) is)
+    ∙ ap (λ l. l ++ printed_value false value) (sym (append-nil (comma_before col)))
 
 -- one value more
-pub member_more : {A : Type 0} (json : Bool) (names : List (List ℕ)) (values : List CellValue) (heads : List (Vec ℕ A)) (col : ℕ) (value : CellValue) → AreHeads json names heads
-    → length values ≡ length names → col < length names → get_or values col value ≡ value
-    → join_with_byte 44 (take (col + 1) (members json names values)) ≡ join_with_byte 44 (take col (members json names values)) ++ (value_head json heads col ++ printed_value json value)
-member_more json names values heads col value are wide inside is =
+pub member_more : (json : Bool) (names : List (List ℕ)) (values : List CellValue) (col : ℕ) (value : CellValue) → length values ≡ length names → col < length names → get_or values col value ≡ value
+    → join_with_byte 44 (take (col + 1) (members json names values)) ≡ join_with_byte 44 (take col (members json names values)) ++ (value_head json names col ++ printed_value json value)
+member_more json names values col value wide inside is =
     let all = members json names values in
     let within : col < length all = omega (arith, members_count json names values (λ is_json. wide), wide, inside) in
     let here : length (take col all) ≡ col = length-take-le col all (omega (arith, within)) in
     ap (join_with_byte 44) (take_more all col [] within) ∙ join_more (take col all) (get_or all col [])
     ∙ ap (λ n. join_with_byte 44 (take col all) ++ (comma_before n ++ get_or all col [])) here
-    ∙ ap (λ l. join_with_byte 44 (take col all) ++ l) (member_at json names values heads col value are wide inside is)
+    ∙ ap (λ l. join_with_byte 44 (take col all) ++ l) (member_at json names values col value wide inside is)
 
 -- with it there is no more than all
-pub member_fits : {A : Type 0} (json : Bool) (names : List (List ℕ)) (values : List CellValue) (heads : List (Vec ℕ A)) (col : ℕ) (value : CellValue) → AreHeads json names heads
-    → length values ≡ length names → col < length names → get_or values col value ≡ value
-    → length (before_values json ++ join_with_byte 44 (take col (members json names values))) + length (value_head json heads col ++ printed_value json value) ≤ length (printed_row json names values)
-member_fits json names values heads col value are wide inside is =
+pub member_fits : (json : Bool) (names : List (List ℕ)) (values : List CellValue) (col : ℕ) (value : CellValue) → length values ≡ length names → col < length names → get_or values col value ≡ value
+    → length (before_values json ++ join_with_byte 44 (take col (members json names values))) + (length (value_head json names col) + length (printed_value json value)) ≤ length (printed_row json names values)
+member_fits json names values col value wide inside is =
     let all = members json names values in
     let some = join_with_byte 44 (take col all) in
     omega (
       arith,
-      ap length (member_more json names values heads col value are wide inside is),
-      length-append some (value_head json heads col ++ printed_value json value),
+      ap length (member_more json names values col value wide inside is),
+      length-append some (value_head json names col ++ printed_value json value),
+      length-append (value_head json names col) (printed_value json value),
       join_front (col + 1) all,
       ap length (row_is json names values),
       length-append (before_values json ++ join_with_byte 44 all) (after_values json),
@@ -107,22 +106,22 @@ one_member t k v a b d e = omega (arith, e, length-append (t ++ k ++ v) a, lengt
 
 members_long : (json : Bool) (names : List (List ℕ)) (values : List CellValue) → (IsTrue json → length values ≡ length names)
     → length (concat (members json names values)) ≡ labels_size json names + length (flat_map (printed_value json) values)
-members_long false names values wide = omega (arith, ap length (flat_is_concat csv_value values))
+members_long false names values wide = omega (arith, ap length (flat_is_concat (printed_value false) values))
 members_long true [] [] wide = refl
 members_long true [] (value ∷ values) wide = absurd (omega (arith, wide refl))
 members_long true (name ∷ names) [] wide = absurd (omega (arith, wide refl))
 members_long true (name ∷ names) (value ∷ values) wide =
     let same = wide refl in
-    one_member (json_text name) (codes ":") (json_value value) (concat (map json_member (zip names values))) (flat_map (λ label. json_text label ++ codes ":") names) (flat_map json_value values)
+    one_member (json_text name) (codes ":") (printed_value true value) (concat (map json_member (zip names values))) (flat_map (λ label. json_text label ++ codes ":") names) (flat_map (printed_value true) values)
     (members_long true names values (λ is_json. omega (arith, same)))
 
-row_long : (json : Bool) (names : List (List ℕ)) (place : ℕ) (values : List CellValue) → (IsTrue json → length values ≡ length names)
-    → length (row_piece json names place values) ≡ length (comma_before (if json then place else 0)) + (labels_size json names + (length values - 1) + 2 + length (flat_map (printed_value json) values))
-row_long json names place values wide =
+row_long : (json : Bool) (names : List (List ℕ)) (values : List CellValue) → (IsTrue json → length values ≡ length names)
+    → length (row_piece json names 1 values) ≡ labels_size json names + (length values - 1) + (if json then 3 else 2) + length (flat_map (printed_value json) values)
+row_long json names values wide =
     let all = members json names values in
     omega (
       arith,
-      length-append (comma_before (if json then place else 0)) (printed_row json names values),
+      length-append (comma_before (if json then 1 else 0)) (printed_row json names values),
       ap length (row_is json names values),
       length-append (before_values json ++ join_with_byte 44 all) (after_values json),
       length-append (before_values json) (join_with_byte 44 all),
@@ -132,18 +131,35 @@ row_long json names place values wide =
       ends json,
     )
   where
-    ends : (json : Bool) → length (before_values json) + length (after_values json) ≡ 2
+    ends : (json : Bool) → length (comma_before (if json then 1 else 0)) + length (before_values json) + length (after_values json) ≡ (if json then 3 else 2)
     ends true = refl
     ends false = refl
 
+-- no piece of a row is longer than the one after a comma
+later_long : (json : Bool) (names : List (List ℕ)) (place : ℕ) (values : List CellValue) → length (row_piece json names place values) ≤ length (row_piece json names 1 values)
+later_long true names zero values = omega arith
+later_long true names (suc place) values = omega (arith, ap (λ comma. length (comma ++ printed_row true names values)) (comma_after place))
+later_long false names place values = omega arith
+
+-- a row after its comma has room where its frame and its values have
+pub row_has_room : (json : Bool) (names : List (List ℕ)) (place : ℕ) (values kept : List CellValue) (width frame room : ℕ) → IsRowFrame json names width frame → length values ≡ width
+    → kept ≡ values → told (frame + length (flat_map (printed_value json) kept)) ≤ room
+    → told (length (comma_before (if json then place else 0)) + length (printed_row json names values)) ≤ room
+row_has_room json names place values kept width frame room is wide same fits =
+    omega (
+      arith,
+      later_long json names place values,
+      is values wide,
+      ap (λ (vs : List CellValue). length (flat_map (printed_value json) vs)) same,
+      fits,
+      length-append (comma_before (if json then place else 0)) (printed_row json names values),
+    )
+
 -- the frame of rows of that width
-pub frame_is : (json : Bool) (names : List (List ℕ)) (width : ℕ) (frame : Frame) → (IsTrue json → width ≡ length names)
-    → frame.first ≡ told (told (told (labels_size json names) + (width - 1)) + 2) → frame.more ≡ (if json then 1 else 0) → IsRowFrame json names width frame
-frame_is true names width frame wide first more zero values is = omega (arith, row_long true names 0 values (λ t. is ∙ wide t), is, first)
-frame_is true names width frame wide first more (suc place) values is =
-    omega (arith, row_long true names (suc place) values (λ t. is ∙ wide t), is, first, more, ap (λ (l : List ℕ). length l) (comma_after place))
-frame_is false names width frame wide first more zero values is = omega (arith, row_long false names 0 values (λ t. is ∙ wide t), is, first)
-frame_is false names width frame wide first more (suc place) values is = omega (arith, row_long false names (suc place) values (λ t. is ∙ wide t), is, first, more)
+pub frame_is : (json : Bool) (names : List (List ℕ)) (width frame comma : ℕ) → (IsTrue json → width ≡ length names)
+    → frame ≡ told (told (told (labels_size json names) + (width - 1)) + (2 + comma)) → comma ≡ (if json then 1 else 0) → IsRowFrame json names width frame
+frame_is true names width frame comma wide all one values is = omega (arith, row_long true names values (λ t. is ∙ wide t), is, all, one)
+frame_is false names width frame comma wide all one values is = omega (arith, row_long false names values (λ t. is ∙ wide t), is, all, one)
 
 pub labels_same : (json : Bool) (under names : List (List ℕ)) → (IsTrue json → under ≡ names) → labels_size json names ≡ labels_size json under
 labels_same true under names same = ap (λ ns. labels_size true ns) (sym (same refl))

@@ -5,7 +5,7 @@ use Rattle.std.specs.List.{AllByRecursion, list_all}
 use Rattle.std.specs.Char.{is_ascii_alphabetic}
 use Rattle.std.proofs.lemmas.Bool.{and_parts}
 use Rattle.std.proofs.lemmas.List.Elements.{All-from_recursion, recursion_from_All}
-use Rattle.csv_grammar.specs.Records.{Field, content}
+use Rattle.csv_grammar.specs.Records.{Field, content, unquoted, IsField}
 use Rattle.csv_grammar.specs.Files.{HasWidth}
 use Rattle.cell_types.specs.declared.fault.CellFault.{CellFault}
 use Rattle.cell_types.specs.Value.{CellValue}
@@ -20,7 +20,7 @@ use Rattle.table_store.specs.Table.{TableOf, mismatch_from, value_then, values_f
 use Rattle.table_store.specs.File.{file_named, FileOf}
 use Rattle.table_store.specs.Catalog.{HasTable, HaveTables}
 use Rattle.result_rows.specs.Rows.{rows_of_table}
-use Rattle.reply_text.specs.Laws.{IsPlainName, FitCsv, TablesFitCsv}
+use Rattle.reply_text.specs.Laws.{FitCsv, TablesFitCsv}
 use Rattle.reply_text.proofs.RecordLemmas.{AreAbove, plain-from_above}
 
 -- ---- names of columns
@@ -37,7 +37,7 @@ bytes_above (b ∷ bytes) all =
     let parts = and_parts (is_name_byte b) (list_all is_name_byte bytes) all in
     (name_byte_above b parts.0, bytes_above bytes parts.1)
 
-plain_name : (name : List ℕ) → is_column_name name ≡ true → IsPlainName name
+plain_name : (name : List ℕ) → is_column_name name ≡ true → IsField (unquoted name)
 plain_name [] is = tt
 plain_name (b ∷ bytes) is =
     let word = (and_parts _ _ is).1 in
@@ -45,7 +45,7 @@ plain_name (b ∷ bytes) is =
     plain-from_above (b ∷ bytes) (letter_above b (and_parts _ _ parts.0).1, bytes_above bytes parts.1)
 
 names_plain : (columns : List ColumnOf) → AllByRecursion (λ (column : ColumnOf). is_column_name column.name ≡ true) columns
-    → AllByRecursion IsPlainName (map (λ column. column.name) columns)
+    → AllByRecursion (λ name. IsField (unquoted name)) (map (λ column. column.name) columns)
 names_plain [] each = tt
 names_plain (column ∷ columns) each = (plain_name column.name each.0, names_plain columns each.1)
 

@@ -6,7 +6,7 @@ use Rattle.result_rows.specs.Rows.{RowsOf}
 use Rattle.odata_errors.specs.declared.code.Code.{Code}
 use Rattle.odata_errors.specs.Code.{code_name, message_of}
 use Rattle.reply_text.specs.Json.{json_row, json_count}
-use Rattle.reply_values.specs.Json.{json_text, json_text_member}
+use Rattle.reply_values.specs.Printed.{json_text, json_text_member}
 
 -- rows: an object whose member `value` has an object for each
 abbrev pub rows_text : RowsOf → List ℕ

@@ -1,14 +1,13 @@
 -- The rows of answers in JSON (RFC 8259), with no space between tokens (OData JSON Format 4.01, sections 4.5 and 21).
-use Rattle.std.specs.Prelude.{ℕ, ◌==◌, List, [], ◌++◌, map, if◌then◌else◌, codes, Option, None, Some}
+use Rattle.std.specs.Prelude.{ℕ, ◌==◌, List, [], ◌++◌, map, true, if◌then◌else◌, codes, Option, None, Some}
 use Rattle.std.specs.List.{zip, join_with_byte}
 use Rattle.std.specs.Fmt.{decimal}
 use Rattle.cell_types.specs.Value.{CellValue}
-use Rattle.reply_values.specs.Json.{json_text}
-use Rattle.reply_values.specs.Printed.{json_value}
+use Rattle.reply_values.specs.Printed.{json_text, printed_value}
 
 -- a member: its name, a colon and its value
 abbrev pub json_member : List ℕ × CellValue → List ℕ
-json_member member = json_text member.0 ++ codes ":" ++ json_value member.1
+json_member member = json_text member.0 ++ codes ":" ++ printed_value true member.1
 
 -- a row: an object of its members, in order
 abbrev pub json_row : List (List ℕ) → List CellValue → List ℕ

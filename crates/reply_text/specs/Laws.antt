@@ -1,22 +1,21 @@
 -- What holds of the bodies. The values of JSON (RFC 8259) that they are: a text reads as at most one.
-use Rattle.std.specs.Prelude.{◌≡◌, ℕ, ◌-◌, ◌^◌, ◌<◌, ◌≤◌, Bool, false, true, List, [], ◌∷◌, Option, None, Some, codes, length, map, unsigned_abs, IsTrue}
+use Rattle.std.specs.Prelude.{◌≡◌, ℕ, ◌-◌, ◌^◌, ◌<◌, ◌≤◌, Bool, List, [], ◌∷◌, Option, None, Some, codes, length, map, true, unsigned_abs, IfSome}
 use Rattle.std.specs.List.{All, AllByRecursion, concat, zip}
 use Rattle.std.specs.Fmt.{decimal, signed_decimal}
 use Rattle.json.specs.Json as json
-use Rattle.csv_grammar.specs.Records.{Field, unquoted, quoted, content, is_plain, AreRecords}
+use Rattle.csv_grammar.specs.Records.{Field, unquoted, IsField, AreRecords}
 use Rattle.cell_types.specs.Decimal.{decimal_text}
 use Rattle.cell_types.specs.Value as cell
 use Rattle.cell_types.specs.Value.{CellValue, null, integer, text, boolean, date}
 use Rattle.table_store.specs.Catalog.{FolderOf, CatalogOf, Means}
 use Rattle.result_rows.specs.Rows.{RowsOf, rows_of_table}
-use Rattle.reply_values.specs.Csv.{needs_quotes}
-use Rattle.reply_values.specs.Printed.{json_value}
+use Rattle.reply_values.specs.Printed.{printed_value, text_field}
 use Rattle.reply_values.specs.Size.{told}
 use Rattle.reply_values.specs.Value.{bool_text, day_text}
 use Rattle.reply_text.specs.Body.{rows_text}
 use Rattle.reply_text.specs.Csv.{csv_text}
 use Rattle.reply_text.specs.Json.{json_row}
-use Rattle.reply_text.specs.Pieces.{csv_pieces, json_pieces}
+use Rattle.reply_text.specs.Pieces.{body_pieces, body_text}
 
 -- what a value is written as: a number has its digits, and a date is a text
 abbrev pub json_of : CellValue → json.Json
@@ -39,18 +38,14 @@ abbrev pub items_of : List (List ℕ) → List (List CellValue) → json.Items
 items_of names [] = json.no_items
 items_of names (row ∷ rows) = json.item (object_of names row) (items_of names rows)
 
--- rows are an array of objects
-abbrev pub array_of_rows : List (List ℕ) → List (List CellValue) → json.Json
-array_of_rows names rows = json.array (items_of names rows)
-
 -- before other members the number of rows, where it was asked for
 abbrev pub with_count : Option ℕ → json.Members → json.Members
 with_count None members = members
 with_count (Some n) members = json.member (codes "@odata.count") (json.number (decimal n)) members
 
--- the body of rows
+-- the body of rows: their array
 abbrev pub body_of : List (List ℕ) → List (List CellValue) → Option ℕ → json.Json
-body_of names rows count = json.object (with_count count (json.member (codes "value") (array_of_rows names rows) json.no_members))
+body_of names rows count = json.object (with_count count (json.member (codes "value") (json.array (items_of names rows)) json.no_members))
 
 -- numbers of no more than 64 digits, as all of 128 bits are, and days whose numbers have their places
 abbrev pub FitsJson : CellValue → Type 0
@@ -59,47 +54,24 @@ FitsJson (date year month day) = (unsigned_abs year < 10_000) × (month < 100) �
 FitsJson (cell.decimal millionths) = unsigned_abs millionths < 10 ^ 64
 FitsJson value = Unit {0}
 
-abbrev pub FitJson : List (List CellValue) → Type 0
-FitJson rows = AllByRecursion (AllByRecursion FitsJson) rows
-
-abbrev pub CountFits : Option ℕ → Type 0
-CountFits None = Unit {0}
-CountFits (Some n) = n < 10 ^ 64
-
--- the text of a value; null has the empty one
-abbrev pub value_text : CellValue → List ℕ
-value_text null = []
-value_text (integer number) = signed_decimal number
-value_text (text bytes) = bytes
-value_text (boolean truth) = bool_text truth
-value_text (date year month day) = day_text year month day
-value_text (cell.decimal millionths) = decimal_text millionths
-
--- whether a value stands in double quotes: a text that is empty or has a double quote, a comma, a CR or an LF, and nothing else
-abbrev pub value_is_quoted : CellValue → Bool
-value_is_quoted (text bytes) = needs_quotes bytes
-value_is_quoted value = false
-
--- whether a field stands in double quotes
-abbrev pub is_quoted : Field → Bool
-is_quoted (unquoted bytes) = false
-is_quoted (quoted inside) = true
-
--- a name that needs no double quotes
-abbrev pub IsPlainName : List ℕ → Type 0
-IsPlainName name = AllByRecursion (λ b. IsTrue (is_plain b)) name
+-- the field of a value: its text, which is in double quotes if it is that of a text that is empty or has a double quote, a comma, a CR or an LF; null has the empty one
+abbrev pub field_of_value : CellValue → Field
+field_of_value null = unquoted []
+field_of_value (integer number) = unquoted (signed_decimal number)
+field_of_value (text bytes) = text_field bytes
+field_of_value (boolean truth) = unquoted (bool_text truth)
+field_of_value (date year month day) = unquoted (day_text year month day)
+field_of_value (cell.decimal millionths) = unquoted (decimal_text millionths)
 
 -- rows that CSV can say: at least one name, none that needs double quotes, and a value or more in each row
 pub record FitCsv (rows : RowsOf) : Type 0 where
   pub some : 0 < length rows.names
-  pub names : AllByRecursion IsPlainName rows.names
+  pub names : AllByRecursion (λ name. IsField (unquoted name)) rows.names
   pub values : AllByRecursion (λ row. 0 < length row) rows.rows
 
--- the records say what the rows do: the first has the names, those after it the texts of the values, row by row; and the double
--- quotes tell an empty text from null
-pub record SaysRows (rows : RowsOf) (records : List (List Field)) : Type 0 where
-  pub contents : map (map content) records ≡ rows.names ∷ map (map value_text) rows.rows
-  pub quotes : map (map is_quoted) records ≡ map (λ name. false) rows.names ∷ map (map value_is_quoted) rows.rows
+-- the records say what the rows do: the first has the names, those after it the fields of the values, row by row, whose double quotes tell an empty text from null
+abbrev pub SaysRows : RowsOf → List (List Field) → Type 0
+SaysRows rows records = records ≡ map unquoted rows.names ∷ map (map field_of_value) rows.rows
 
 -- what we publish, our own grammar reads: the body of rows has records, and they say what the rows do
 pub record CsvReadsBack : Type 0 where
@@ -114,9 +86,9 @@ TablesFitCsv = (folder : FolderOf) (catalog : CatalogOf) → 1 ≤ folder.limits
 -- What we publish as JSON, a reader of JSON (RFC 8259) gives back: the text of a value, of a row and of the body of rows is that of one value of JSON, which has the
 -- names, texts and digits that were written, each once and in order.
 pub record JsonReadsBack : Type 0 where
-  pub values : (value : CellValue) → FitsJson value → json.document (json_value value) ≡ Some (json_of value)
+  pub values : (value : CellValue) → FitsJson value → json.document (printed_value true value) ≡ Some (json_of value)
   pub rows : (names : List (List ℕ)) (values : List CellValue) → AllByRecursion FitsJson values → json.document (json_row names values) ≡ Some (object_of names values)
-  pub bodies : (rows : RowsOf) → FitJson rows.rows → CountFits rows.count → json.document (rows_text rows) ≡ Some (body_of rows.names rows.rows rows.count)
+  pub bodies : (rows : RowsOf) → AllByRecursion (AllByRecursion FitsJson) rows.rows → IfSome rows.count (λ n. n < 10 ^ 64) → json.document (rows_text rows) ≡ Some (body_of rows.names rows.rows rows.count)
 
 -- A number of bytes that is counted is the number of bytes that are written, if it is less than the greatest of 64 bits; and each that 64 bits have is
 -- counted so.
@@ -125,6 +97,5 @@ pub record CountsAreLengths : Type 0 where
   pub short : (length : ℕ) → length < 2 ^ 64 → told length ≡ length
 
 -- the pieces of a body of rows are the body
-pub record PiecesAreBodies : Type 0 where
-  pub json : (rows : RowsOf) → concat (json_pieces rows) ≡ rows_text rows
-  pub csv : (rows : RowsOf) → concat (csv_pieces rows) ≡ csv_text rows
+abbrev pub PiecesAreBodies : Type 0
+PiecesAreBodies = (json : Bool) (rows : RowsOf) → concat (body_pieces json rows) ≡ body_text json rows

@@ -3,7 +3,6 @@ pub mod Body
 pub mod Csv
 pub mod Pieces
 pub mod RowSizes
-pub mod Inside
 pub mod Laws
 pub mod Waiting
 pub use Rattle.result_rows.specs.Rows

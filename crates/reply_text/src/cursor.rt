@@ -1,10 +1,10 @@
 //! Bodies that are written piece by piece, within room that was reserved.
-ghost use Rattle.std.specs.Prelude.{◌≡◌, ◌+◌, ◌++◌, ◌==◌, ◌<◌, ◌≤◌, IfOk, length, take};
+ghost use Rattle.std.specs.Prelude.{◌≡◌, ◌+◌, ◌++◌, ◌==◌, ◌<◌, ◌≤◌, IfOk, false, length, take, true};
 ghost use Rattle.std.specs.List.{concat};
 ghost use Rattle.reply_text.specs.Body.{rows_text};
 ghost use Rattle.reply_text.specs.Csv.{csv_text};
-ghost use Rattle.reply_text.specs.Inside.{cursor_pieces, IsAt};
-ghost use Rattle.reply_text.specs.Pieces.{body_pieces, body_text, csv_pieces, json_pieces, IsNearLongest};
+ghost use Rattle.reply_text.specs.Pieces.{cursor_pieces, IsAt};
+ghost use Rattle.reply_text.specs.Pieces.{body_pieces, body_text, IsNearLongest};
 ghost use Rattle.reply_text.specs.RowSizes.{HaveCsvSizes, HaveJsonSizes, HaveSizes};
 
 use crate::opening::{heads_of, push_opening};
@@ -31,7 +31,7 @@ impl Model for BodyCursor {
 
     ghost Value = { BodyRest };
 
-    ghost use Rattle.reply_text.specs.Inside.{rest_view, IsAtPiece};
+    ghost use Rattle.reply_text.specs.Pieces.{rest_view, IsAtPiece};
 
     ghost view = { rest_view };
 
@@ -83,7 +83,7 @@ impl BodyCursor {
         requires untaken { rows.taken ≡ 0 }
         ensures bytes { IfOk result (λ body. body.bytes ≡ rows_text rows.rows) }
         ensures longest { IfOk result
-            (λ body. IsNearLongest (json_pieces rows.rows) body.longest) }
+            (λ body. IsNearLongest (body_pieces true rows.rows) body.longest) }
     {
         of_rows::<true>(alloc, rows, counted)
     }
@@ -99,7 +99,7 @@ impl BodyCursor {
         requires untaken { rows.taken ≡ 0 }
         ensures bytes { IfOk result (λ body. body.bytes ≡ csv_text rows.rows) }
         ensures longest { IfOk result
-            (λ body. IsNearLongest (csv_pieces rows.rows) body.longest) }
+            (λ body. IsNearLongest (body_pieces false rows.rows) body.longest) }
     {
         of_rows::<false>(alloc, rows, counted)
     }

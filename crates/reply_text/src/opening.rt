@@ -3,7 +3,7 @@ ghost use Rattle.std.specs.Prelude.{◌≡◌, ◌++◌, IfOk, OnOk, map, string
 ghost use Rattle.reply_text.specs.Csv.{csv_line};
 ghost use Rattle.reply_text.specs.Json.{comma_before, json_count};
 ghost use Rattle.reply_text.specs.Pieces.{opening_text};
-ghost use Rattle.reply_text.specs.Inside.{AreHeads};
+ghost use Rattle.reply_text.specs.Pieces.{AreHeads};
 
 use reply_values::{push_number, push_text};
 use result_rows::Rows;
@@ -20,23 +20,22 @@ pub fn push_comma(out: &mut Vec<u8>, place: usize) -> Result<(), AllocError>
     }
 }
 
-/// Returns what comes before each value of a row in JSON: a comma, but before the first, the name and a colon. For CSV it returns none, since only commas do there.
+/// Returns what comes before each value of a row: a comma, but before the first, and in JSON the name and a colon.
 pub fn heads_of<const JSON: bool>(
     alloc: Global,
     names: &[String],
 ) -> Result<Vec<Vec<u8>>, AllocError>
     ensures { IfOk result (λ heads. AreHeads JSON (map string_bytes names.now) heads.items) }
 {
-    let mut heads = Vec::new(alloc);
-    if JSON {
-        heads.reserve(names.len())?;
-        for (place, name) in names.iter().enumerate() {
-            let mut head = Vec::new(alloc);
-            push_comma(&mut head, place)?;
+    let mut heads = Vec::with_capacity(alloc, names.len())?;
+    for (place, name) in names.iter().enumerate() {
+        let mut head = Vec::new(alloc);
+        push_comma(&mut head, place)?;
+        if JSON {
             push_text(&mut head, name.as_bytes())?;
             head.extend_from_slice(b":")?;
-            heads.push(head)?;
         }
+        heads.push(head)?;
     }
     Ok(heads)
 }

@@ -1,6 +1,6 @@
 //! The pieces of a body, by their numbers.
 ghost use Rattle.std.specs.Prelude.{◌≡◌, ◌+◌, [], ◌<◌, ◌≤◌, get_or, length};
-ghost use Rattle.reply_text.specs.Inside.{cursor_pieces, AreRowsAt, IsAt, WritesOn};
+ghost use Rattle.reply_text.specs.Pieces.{cursor_pieces, AreRowsAt, IsAt, WritesOn};
 ghost use Rattle.reply_text.specs.Pieces.{body_pieces};
 ghost use Rattle.reply_values.specs.Size.{IsWrittenAt};
 
@@ -13,7 +13,7 @@ use reply_values::put_piece;
 pub struct RowPieces {
     pub json: bool,
     pub rows: RowTurns,
-    /// What comes before each value of a row in JSON.
+    /// What comes before each value of a row.
     pub heads: Vec<Vec<u8>>,
     /// What comes before the rows.
     pub opening: Vec<u8>,

@@ -1,14 +1,14 @@
 //! Rows in JSON or in CSV, appended to one buffer.
 ghost use Rattle.std.specs.Prelude.{◌≡◌, ◌<◌, ◌≤◌, ◌++◌, [], IfNone, IfOk, IfSome, OnOk, get_or, length, take, vec_len};
 ghost use Rattle.std.specs.List.{concat};
-ghost use Rattle.reply_text.specs.Inside.{AreHeads};
+ghost use Rattle.reply_text.specs.Pieces.{AreHeads};
 ghost use Rattle.reply_text.specs.Pieces.{body_text, row_piece, row_pieces};
 ghost use Rattle.reply_text.specs.RowSizes.{IsRowFrame};
 
 use crate::opening::{heads_of, push_opening};
 use crate::put_rows::{put_comma, put_row};
 use crate::row_sizes::row_frame;
-use cell_texts::{Frame, row_room};
+use cell_texts::row_room;
 use result_rows::Rows;
 use std::alloc::{AllocError, Global};
 
@@ -18,7 +18,7 @@ fn push_row<const JSON: bool>(
     rows: &Rows,
     row: usize,
     heads: &[Vec<u8>],
-    frame: Frame,
+    frame: usize,
 ) -> Result<(), AllocError>
     requires row { row < length rows.now.rows }
     requires heads { AreHeads JSON rows.now.names heads.now }
@@ -28,7 +28,7 @@ fn push_row<const JSON: bool>(
 {
     let _width = rows.width(); // that of each row
     let at = out.len();
-    let room = row_room::<JSON>(rows.columns(), row, frame.at(row));
+    let room = row_room::<JSON>(rows.columns(), row, frame);
     out.resize(at.saturating_add(room), 0)?;
     let start = put_comma::<JSON>(out.as_mut_slice(), at, row);
     let end = put_row::<JSON>(out.as_mut_slice(), start, rows, row, heads);
@@ -43,7 +43,7 @@ pub fn push_rows<const JSON: bool>(
     most: usize,
 ) -> Result<usize, AllocError>
     ensures bytes { IfOk result (λ count. out.new.items ≡ out.old.items
-        ++ concat (take count (row_pieces JSON rows.now.names 0 rows.now.rows))) }
+        ++ concat (take count (row_pieces JSON rows.now.names rows.now.rows))) }
     ensures all { IfOk result (λ count. vec_len out.new ≤ most
         → length rows.now.rows ≤ count) }
 {

@@ -1,16 +1,13 @@
 //! Rows in JSON or in CSV, written into room that is there.
-ghost use Rattle.std.specs.Prelude.{◌≡◌, ◌+◌, ◌++◌, [], ◌<◌, ◌≤◌, IsTrue, get_or, if◌then◌else◌, length};
-ghost use Rattle.row_columns.specs.Cell.{cell_view};
-ghost use Rattle.reply_text.specs.Inside.{value_head, AreHeads};
+ghost use Rattle.std.specs.Prelude.{◌+◌, [], ◌<◌, ◌≤◌, get_or, if◌then◌else◌, length};
+ghost use Rattle.reply_text.specs.Pieces.{AreHeads};
 ghost use Rattle.reply_text.specs.Json.{comma_before};
 ghost use Rattle.reply_text.specs.Pieces.{printed_row};
-ghost use Rattle.reply_values.specs.Printed.{printed_value};
 ghost use Rattle.reply_values.specs.Size.{IsWrittenAt};
 
 use cell_texts::put_cell;
 use reply_values::{put_byte, put_piece};
 use result_rows::Rows;
-use row_columns::Cell;
 
 /// Writes a comma before every item but the first, if items have commas.
 #[inline(always)]
@@ -22,30 +19,6 @@ pub(crate) fn put_comma<const COMMAS: bool>(out: &mut [u8], at: usize, place: us
         return at;
     }
     put_byte(out, at, b',')
-}
-
-/// Writes the value with that place in a row, after what comes before it.
-#[inline(always)]
-fn put_value<const JSON: bool>(
-    out: &mut [u8],
-    at: usize,
-    heads: &[Vec<u8>],
-    col: usize,
-    cell: Cell<'_>,
-) -> usize
-    requires head { IsTrue JSON → col < length heads.now }
-    requires room { at + length
-        (value_head JSON heads.now col ++ printed_value JSON (cell_view cell)) ≤ length out.old }
-    ensures { IsWrittenAt out.old out.new at result
-        (value_head JSON heads.now col ++ printed_value JSON (cell_view cell.entry)) }
-{
-    if JSON {
-        let end = put_piece(out, at, heads[col].as_slice());
-        put_cell::<JSON>(out, end, cell)
-    } else {
-        let end = put_comma::<true>(out, at, col);
-        put_cell::<JSON>(out, end, cell)
-    }
 }
 
 /// Writes the row with a number.
@@ -67,7 +40,8 @@ pub(crate) fn put_row<const JSON: bool>(
     let values = rows.row_ref(row);
     let mut end = if JSON { put_byte(out, at, b'{') } else { at };
     for col in 0..rows.width() {
-        end = put_value::<JSON>(out, end, heads, col, values.cell(col));
+        end = put_piece(out, end, heads[col].as_slice());
+        end = put_cell::<JSON>(out, end, values.cell(col));
     }
     if JSON {
         put_byte(out, end, b'}')

@@ -3,10 +3,10 @@ ghost use Rattle.std.specs.Prelude.{◌≡◌, ◌+◌, ◌-◌, ◌^◌, ◌<�
 ghost use Rattle.std.specs.List.{concat};
 ghost use Rattle.result_rows.specs.Rows.{BeginWith, RowsOf};
 ghost use Rattle.reply_text.specs.Pieces.{body_pieces, opening_text, IsNearLongest};
-ghost use Rattle.reply_text.specs.RowSizes.{labels_size, AreCsvSizes, AreFirstSizes, AreJsonSizes, CountsMore, CountsRows, HaveSizes, IsRowFrame};
+ghost use Rattle.reply_text.specs.RowSizes.{labels_size, AreCsvSizes, AreJsonSizes, CountsMore, HaveSizes, IsRowFrame};
 ghost use Rattle.reply_values.specs.Size.{told};
 
-use cell_texts::{Frame, put_sizes};
+use cell_texts::put_sizes;
 use reply_values::text_size;
 use result_rows::OrderedRows;
 use row_columns::Columns;
@@ -31,53 +31,24 @@ fn labels_size<const JSON: bool>(names: &[String]) -> usize
 }
 
 /// Returns how many bytes rows of that width take without their values: in JSON the names and colons, the commas and the braces, in CSV the commas and the line
-/// break. In JSON each row but the first has a comma before it.
-pub(crate) fn row_frame<const JSON: bool>(names: &[String], width: usize) -> Frame
+/// break. In JSON each row has a comma before it, and the first row is one byte shorter.
+pub(crate) fn row_frame<const JSON: bool>(names: &[String], width: usize) -> usize
     requires { IsTrue JSON → width ≡ length names.now }
     ensures { (under : List (List ℕ)) → (IsTrue JSON → under ≡ map string_bytes names.now)
         → IsRowFrame JSON under width result }
 {
-    Frame {
-        first: labels_size::<JSON>(names)
-            .saturating_add(width.saturating_sub(1))
-            .saturating_add(2),
-        more: usize::from(JSON),
-    }
+    labels_size::<JSON>(names)
+        .saturating_add(width.saturating_sub(1))
+        .saturating_add(2 + usize::from(JSON))
 }
 
-/// How many bytes some pieces take, and the longest of them. A number that has more than 64 bits is the greatest that does not.
-#[derive(Clone, Copy, Drop)]
-pub(crate) struct Sizes {
-    pub(crate) all: usize,
-    pub(crate) longest: usize,
-}
-
-impl Sizes {
-    /// Returns no pieces.
-    pub fn none() -> Sizes
-        ensures all { result.all ≡ 0 }
-        ensures longest { result.longest ≡ 0 }
-    {
-        Sizes { all: 0, longest: 0 }
-    }
-
-    /// Adds a piece of `size` bytes.
-    pub fn with(self, size: usize) -> Sizes
-        ensures all { result.all ≡ told (self.all + size) }
-        ensures longest { result.longest ≡ max self.longest size }
-    {
-        Sizes {
-            all: self.all.saturating_add(size),
-            longest: self.longest.max(size),
-        }
-    }
-}
-
-/// How many rows were counted, from the first on, and how many bytes they take.
+/// How many rows were counted, from the first on, how many bytes they take, and how many the longest of them. A number that has more than 64 bits is the greatest
+/// that does not.
 #[derive(Clone, Copy, Drop)]
 pub struct RowSizes {
     len: usize,
-    sizes: Sizes,
+    pub(crate) all: usize,
+    pub(crate) longest: usize,
 }
 
 impl RowSizes {
@@ -88,29 +59,44 @@ impl RowSizes {
     {
         RowSizes {
             len: 0,
-            sizes: Sizes::none(),
+            all: 0,
+            longest: 0,
+        }
+    }
+
+    /// Adds a piece of `size` bytes.
+    fn with(self, size: usize) -> RowSizes
+        ensures len { result.len ≡ self.len }
+        ensures all { result.all ≡ told (self.all + size) }
+        ensures longest { result.longest ≡ max self.longest size }
+    {
+        RowSizes {
+            len: self.len,
+            all: self.all.saturating_add(size),
+            longest: self.longest.max(size),
         }
     }
 
     /// Counts the rows after those that were counted, as many as there are places.
-    fn count_few<const JSON: bool>(&mut self, columns: &Columns, frame: Frame, room: &mut [usize])
+    fn count_few<const JSON: bool>(&mut self, columns: &Columns, frame: usize, room: &mut [usize])
         requires { self.old.len + length room.old ≤ length columns.now.rows }
         ensures len { self.new.len ≡ self.old.len + length room.old }
-        ensures sizes { CountsMore JSON frame columns.now.rows self.old self.new }
+        ensures sizes { CountsMore JSON frame columns.now self.old self.new }
     {
+        columns.rows_are_wide();
         let _rows = columns.len(); // each row has a number that fits
         put_sizes::<JSON>(columns, self.len, frame, room);
         for i in 0..room.len() {
-            self.sizes = self.sizes.with(room[i]);
+            *self = self.with(room[i]);
+            self.len += 1;
         }
-        self.len += room.len();
     }
 
     /// Counts the rows that were not counted yet.
-    fn count<const JSON: bool>(&mut self, columns: &Columns, frame: Frame)
-        ensures { CountsRows JSON frame columns.now self.old self.new }
+    fn count<const JSON: bool>(&mut self, columns: &Columns, frame: usize)
+        ensures len { self.new.len ≡ max self.old.len (length columns.now.rows) }
+        ensures sizes { CountsMore JSON frame columns.now self.old self.new }
     {
-        columns.rows_are_wide();
         let mut room = [0; TOGETHER];
         while self.len < columns.len() {
             let count = TOGETHER.min(columns.len() - self.len);
@@ -155,7 +141,7 @@ impl RowSizes {
     }
 
     /// Returns the sizes of the pieces of a body of rows, of which these were counted, and before which `opening` bytes come.
-    pub(crate) fn of_body<const JSON: bool>(self, rows: &OrderedRows, opening: usize) -> Sizes
+    pub(crate) fn of_body<const JSON: bool>(self, rows: &OrderedRows, opening: usize) -> RowSizes
         requires counted { HaveSizes JSON self rows.now.rows }
         requires opening { opening ≡ length (opening_text JSON rows.now.rows) }
         ensures all { result.all ≡ told (length (concat (body_pieces JSON rows.now.rows))) }
@@ -163,9 +149,8 @@ impl RowSizes {
             → IsNearLongest (body_pieces JSON rows.now.rows) result.longest }
     {
         let rows = self.of_all::<JSON>(rows);
-        let sizes = rows.sizes.with(opening).with(2 * usize::from(JSON));
-        // The row that was counted first may have a comma before it.
-        let longest = sizes.longest.saturating_add(1);
-        Sizes { longest, ..sizes }
+        // The first row has no comma before it.
+        let end = (2 * usize::from(JSON)).saturating_sub(rows.len.min(1));
+        rows.with(opening).with(end)
     }
 }

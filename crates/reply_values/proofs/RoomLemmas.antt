@@ -1,13 +1,14 @@
 -- Numbers of bytes that texts do not pass.
 use Rattle.std.specs.Prelude.{FitsSigned}
-use Rattle.std.proofs.Common.{◌≡◌, ℕ, suc, ◌+◌, ◌*◌, ◌/◌, ◌%◌, ◌^◌, ◌<◌, ◌≤◌, ℤ, pos, negsuc, Bool, true, false, cond, eqb, nat_lt, List, [], ◌∷◌, ◌++◌, length, length-append, arith}
+use Rattle.std.proofs.Common.{◌≡◌, ℕ, suc, ◌+◌, ◌*◌, ◌/◌, ◌%◌, ◌^◌, ◌<◌, ◌≤◌, ℤ, pos, negsuc, Bool, true, false, cond, eqb, nat_lt, List, [], ◌∷◌, length, length-append, arith}
 use Rattle.std.specs.Int.{w64}
 use Rattle.std.specs.Fmt.{decimal, signed_decimal}
 use Rattle.std.specs.List.{flat_map}
 use Rattle.std.proofs.lemmas.Fmt.{length-decimal-le_wide}
 use Rattle.std.proofs.lemmas.Int.{ints}
-use Rattle.reply_values.specs.Csv.{csv_field, doubled_byte, needs_quotes}
-use Rattle.reply_values.specs.Json.{json_escaped, json_text}
+use Rattle.csv_grammar.specs.Records.{doubled, print_field, quoted, unquoted}
+use Rattle.json.specs.Print.{escape_byte, escape_letter}
+use Rattle.reply_values.specs.Printed.{json_text, needs_quotes, text_field}
 use Rattle.reply_values.specs.Size.{told}
 use Rattle.cell_types.specs.Decimal.{decimal_text, fraction_text, millionths_text}
 use Rattle.reply_values.proofs.DigitLemmas.{short_fraction, short_number}
@@ -16,32 +17,31 @@ six : (t : Bool) (xs ys : List ℕ) → length xs ≤ 6 → length ys ≤ 6 → 
 six true xs ys a b = a
 six false xs ys a b = b
 
-escaped_few : (b : ℕ) → length (json_escaped b) ≤ 6
-escaped_few b =
-    six (eqb b 34) _ _ (omega arith) (six (eqb b 92) _ _ (omega arith) (six (eqb b 8) _ _ (omega arith) (six (eqb b 12) _ _ (omega arith)
-    (six (eqb b 10) _ _ (omega arith) (six (eqb b 13) _ _ (omega arith) (six (eqb b 9) _ _ (omega arith) (six (nat_lt b 32) _ _ (omega arith) (omega arith))))))))
+escaped_few : (b : ℕ) → length (escape_byte b) ≤ 6
+unfolding escape_byte
+escaped_few b = six (nat_lt 0 (escape_letter b)) _ _ (omega arith) (six (nat_lt b 32) _ _ (omega arith) (omega arith))
 
-text_few : (text : List ℕ) → length (flat_map json_escaped text) ≤ 6 * length text
+text_few : (text : List ℕ) → length (flat_map escape_byte text) ≤ 6 * length text
 text_few [] = omega arith
-text_few (b ∷ text) = omega (arith, length-append (json_escaped b) (flat_map json_escaped text), escaped_few b, text_few text)
+text_few (b ∷ text) = omega (arith, length-append (escape_byte b) (flat_map escape_byte text), escaped_few b, text_few text)
 
 pub text_fits : (text : List ℕ) (most_of_it room : ℕ) → most_of_it ≡ told (length text * 6) → room ≡ told (most_of_it + 2) → told (length (json_text text)) ≤ room
-text_fits text most_of_it room product sum = omega (arith, text_few text, length-append (flat_map json_escaped text) (34 ∷ []), product, sum)
+text_fits text most_of_it room product sum = omega (arith, text_few text, length-append (flat_map escape_byte text) (34 ∷ []), product, sum)
 
-doubled_few : (text : List ℕ) → length (flat_map doubled_byte text) ≤ 2 * length text
+doubled_few : (text : List ℕ) → length (doubled text) ≤ 2 * length text
 doubled_few [] = omega arith
-doubled_few (b ∷ text) = omega (arith, length-append (doubled_byte b) (flat_map doubled_byte text), two (eqb b 34), doubled_few text)
+doubled_few (b ∷ text) = by (eqb b 34) (doubled_few text)
   where
-    two : (t : Bool) → length (cond t (34 ∷ 34 ∷ []) (b ∷ [])) ≤ 2
-    two true = omega arith
-    two false = omega arith
+    by : (t : Bool) → length (doubled text) ≤ 2 * length text → length (cond t (34 ∷ 34 ∷ doubled text) (b ∷ doubled text)) ≤ 2 * suc (length text)
+    by true few = omega (arith, few)
+    by false few = omega (arith, few)
 
-pub field_fits : (text : List ℕ) (most_of_it room : ℕ) → most_of_it ≡ told (length text * 2) → room ≡ told (most_of_it + 2) → told (length (csv_field text)) ≤ room
+pub field_fits : (text : List ℕ) (most_of_it room : ℕ) → most_of_it ≡ told (length text * 2) → room ≡ told (most_of_it + 2) → told (length (print_field (text_field text))) ≤ room
 field_fits text most_of_it room product sum =
     omega (arith, by (needs_quotes text), product, sum)
   where
-    by : (t : Bool) → length (cond t (34 ∷ (flat_map doubled_byte text ++ 34 ∷ [])) text) ≤ 2 * length text + 2
-    by true = omega (arith, doubled_few text, length-append (flat_map doubled_byte text) (34 ∷ []))
+    by : (t : Bool) → length (print_field (cond t (quoted text) (unquoted text))) ≤ 2 * length text + 2
+    by true = omega (arith, doubled_few text, length-append (doubled text) (34 ∷ []))
     by false = omega arith
 
 pub signed_few : (z : ℤ) → FitsSigned w64 z → length (signed_decimal z) ≤ 21

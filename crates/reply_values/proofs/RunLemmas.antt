@@ -5,13 +5,14 @@ use Rattle.std.proofs.lemmas.List.{take-append-drop, take_all, append-nil, nil_f
 use Rattle.std.proofs.lemmas.List.Concat.{flat_map-append}
 use Rattle.std.proofs.lemmas.Bool.{eqb-true}
 use Rattle.reply_values.proofs.BlockLemmas.{none_is_past}
-use Rattle.reply_values.specs.Csv.{doubled_byte, is_quoted_byte, needs_quotes}
-use Rattle.reply_values.specs.Json.{json_escaped}
-use Rattle.reply_values.specs.Printed.{is_plain_text, printed_byte, needs_more, printed_text}
+use Rattle.csv_grammar.specs.Records.{doubled, print_field, quoted, unquoted}
+use Rattle.json.specs.Print.{escape_byte}
+use Rattle.json.proofs.Printed.Strings.{escape_byte_plain}
+use Rattle.reply_values.specs.Printed.{is_plain_text, printed_byte, needs_more, needs_quotes, printed_text}
 use Rattle.reply_values.specs.Size.{told}
 
 escaped_plain : (json : Bool) (b : ℕ) → needs_more json b ≡ false → printed_byte json b ≡ b ∷ []
-escaped_plain true b h = grind (arith, tests)
+escaped_plain true b h = escape_byte_plain b (λ e. grind (arith, tests, e)) (λ e. grind (arith, tests, e)) (grind (arith, tests))
 escaped_plain false b h = grind (arith, tests)
 
 flat_map_plain_from : (json : Bool) (b : ℕ) (bs : List ℕ) (test : Bool) → needs_more json b ≡ test → (n : ℕ) → flat_map (printed_byte json) (take n bs) ≡ take n bs
@@ -36,15 +37,24 @@ pub all_plain : (json : Bool) (bs : List ℕ) → is_plain_text json bs ≡ true
 all_plain json bs plain =
     let front : take (run_of json bs) bs ≡ bs = take_all (run_of json bs) bs (omega (arith, plain_then_whole json bs plain)) in rw front at (plain_run json bs)
 
+doubled_same : (bytes : List ℕ) → flat_map (printed_byte false) bytes ≡ doubled bytes
+doubled_same [] = refl
+doubled_same (b ∷ bytes) = by (b == 34) (doubled_same bytes)
+  where
+    by : (t : Bool) → flat_map (printed_byte false) bytes ≡ doubled bytes
+        → cond t (34 ∷ 34 ∷ []) (b ∷ []) ++ flat_map (printed_byte false) bytes ≡ cond t (34 ∷ 34 ∷ doubled bytes) (b ∷ doubled bytes)
+    by true same = ap (λ w. 34 ∷ 34 ∷ w) same
+    by false same = ap (λ w. b ∷ w) same
+
 -- and is as long, with its double quotes
 pub plain_long : (json : Bool) (bytes : List ℕ) → is_plain_text json bytes ≡ true
     → length (printed_text json bytes) ≡ cond (json || (length bytes == 0)) (length bytes + 2) (length bytes)
-plain_long true bytes plain = omega (arith, ap length (all_plain true bytes plain), length-append (flat_map json_escaped bytes) (34 ∷ []))
-plain_long false bytes plain = by (length bytes == 0) (list_any is_quoted_byte bytes) plain (ap length (all_plain false bytes plain))
+plain_long true bytes plain = omega (arith, ap length (all_plain true bytes plain), length-append (flat_map escape_byte bytes) (34 ∷ []))
+plain_long false bytes plain = by (length bytes == 0) (list_any (needs_more false) bytes) plain (ap length (sym (doubled_same bytes) ∙ all_plain false bytes plain))
   where
-    by : (empty some : Bool) → not some ≡ true → length (flat_map doubled_byte bytes) ≡ length bytes
-        → length (cond (empty || some) (34 ∷ (flat_map doubled_byte bytes ++ 34 ∷ [])) bytes) ≡ cond empty (length bytes + 2) (length bytes)
-    by true some plain inside = omega (arith, inside, length-append (flat_map doubled_byte bytes) (34 ∷ []))
+    by : (empty some : Bool) → not some ≡ true → length (doubled bytes) ≡ length bytes
+        → length (print_field (cond (empty || some) (quoted bytes) (unquoted bytes))) ≡ cond empty (length bytes + 2) (length bytes)
+    by true some plain inside = omega (arith, inside, length-append (doubled bytes) (34 ∷ []))
     by false true plain inside = cc
     by false false plain inside = refl
 
@@ -103,14 +113,14 @@ pub quoted_text : (json : Bool) (bytes : List ℕ) → (json || needs_quotes byt
 quoted_text true bytes is = refl
 quoted_text false bytes is = by (needs_quotes bytes) is
   where
-    by : (t : Bool) → t ≡ true → cond t (34 ∷ (flat_map doubled_byte bytes ++ 34 ∷ [])) bytes ≡ 34 ∷ (flat_map doubled_byte bytes ++ 34 ∷ [])
-    by true e = refl
+    by : (t : Bool) → t ≡ true → print_field (cond t (quoted bytes) (unquoted bytes)) ≡ 34 ∷ (flat_map (printed_byte false) bytes ++ 34 ∷ [])
+    by true e = ap (λ inside. 34 ∷ (inside ++ 34 ∷ [])) (sym (doubled_same bytes))
     by false e = cc
 
 pub plain_text : (json : Bool) (bytes : List ℕ) → (json || needs_quotes bytes) ≡ false → printed_text json bytes ≡ bytes
 plain_text true bytes is = cc
 plain_text false bytes is = by (needs_quotes bytes) is
   where
-    by : (t : Bool) → t ≡ false → cond t (34 ∷ (flat_map doubled_byte bytes ++ 34 ∷ [])) bytes ≡ bytes
+    by : (t : Bool) → t ≡ false → print_field (cond t (quoted bytes) (unquoted bytes)) ≡ bytes
     by true e = cc
     by false e = refl

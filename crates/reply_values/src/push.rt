@@ -1,7 +1,7 @@
 //! Texts and numbers in JSON (RFC 8259), appended to one buffer.
 ghost use Rattle.std.specs.Prelude.{◌≡◌, ◌+◌, ◌++◌, ◌<◌, ◌≤◌, OnErr, OnOk, length, vec_capacity, vec_len};
 ghost use Rattle.std.specs.Fmt.{decimal};
-ghost use Rattle.reply_values.specs.Json.{json_text, json_text_member};
+ghost use Rattle.reply_values.specs.Printed.{json_text, json_text_member};
 
 use crate::room::make_room;
 use crate::text_sizes::text_size;

@@ -1,8 +1,7 @@
 //! How far the bytes of a text stand for themselves: in JSON none needs an escape (RFC 8259, section 7), in CSV none stands in double quotes alone (RFC 4180, section 2).
 ghost use Rattle.std.specs.Prelude.{◌≡◌, ◌||◌, ◌<◌, ◌≤◌, length};
 ghost use Rattle.std.specs.List.{position_or_len};
-ghost use Rattle.reply_values.specs.Csv.{needs_quotes};
-ghost use Rattle.reply_values.specs.Printed.{is_plain_text, needs_more};
+ghost use Rattle.reply_values.specs.Printed.{is_plain_text, needs_more, needs_quotes};
 
 use crate::lanes::run_in;
 

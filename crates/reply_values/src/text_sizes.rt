@@ -7,6 +7,7 @@ ghost use Rattle.reply_values.specs.Size.{told};
 use crate::runs::{is_quoted, run_len};
 
 /// Returns how many bytes stand for a byte between double quotes.
+#[tactic(auto, unfolding(json::specs::Print::escape_byte))]
 fn escaped_size<const JSON: bool>(byte: u8) -> usize
     ensures { result ≡ length (printed_byte JSON byte) }
 {

@@ -1,7 +1,7 @@
 //! Texts in JSON (RFC 8259) or in CSV (RFC 4180, section 2), written into room that is there.
 ghost use Rattle.std.specs.Prelude.{◌≡◌, ◌+◌, ◌++◌, ◌<◌, ◌≤◌, length, take};
+ghost use Rattle.std.specs.Char.{digit_char};
 ghost use Rattle.std.specs.List.{flat_map};
-ghost use Rattle.reply_values.specs.Json.{hex_digit};
 ghost use Rattle.reply_values.specs.Printed.{printed_byte, printed_text};
 ghost use Rattle.reply_values.specs.Size.{IsWrittenAt};
 
@@ -11,12 +11,13 @@ use crate::runs::{is_plain, is_quoted, run_len};
 /// Returns a hexadecimal digit in lower case.
 fn hex_digit(n: u8) -> u8
     requires { n < 16 }
-    ensures { result ≡ hex_digit n }
+    ensures { result ≡ digit_char n }
 {
     if n < 10 { b'0' + n } else { b'a' - 10 + n }
 }
 
 /// Writes what stands for a byte between double quotes.
+#[tactic(auto, unfolding(json::specs::Print::escape_byte))]
 fn put_escaped<const JSON: bool>(out: &mut [u8], at: usize, byte: u8) -> usize
     requires { at + length (printed_byte JSON byte) ≤ length out.old }
     ensures { IsWrittenAt out.old out.new at result (printed_byte JSON byte) }

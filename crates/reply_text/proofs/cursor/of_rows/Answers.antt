@@ -1,7 +1,7 @@
 use Rattle.std.proofs.Common.{◌≡◌, ◌≤◌, List, ℕ, length, sym, ap, ◌∙◌, subst, arith}
 use Rattle.std.specs.List.{AllByRecursion, concat}
 use Rattle.result_rows.specs.Rows.{OrderedOf, RowsOf}
-use Rattle.reply_text.specs.Inside.{AreHeads}
+use Rattle.reply_text.specs.Pieces.{AreHeads}
 use Rattle.reply_text.specs.Pieces.{body_pieces, opening_text}
 use Rattle.reply_text.specs.contracts.cursor.of_rows.{JSON-type}
 use denote.Param.{number}

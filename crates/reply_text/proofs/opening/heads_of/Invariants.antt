@@ -1,5 +1,5 @@
 use Rattle.std.proofs.Common.{map, string_bytes, take}
-use Rattle.reply_text.specs.Inside.{AreHeads}
+use Rattle.reply_text.specs.Pieces.{AreHeads}
 use Rattle.reply_text.specs.contracts.opening.heads_of.{JSON-type}
 use denote.Param.{number}
 use Rattle.reply_text.proofs.opening.heads_of.Given as goal

@@ -1,7 +1,7 @@
 use Rattle.std.proofs.Common.{◌-◌, [], get_or, length, length-append, sym, ap, ◌∙◌, subst, arith}
 use Rattle.std.specs.Prelude.{if◌then◌else◌}
 use Rattle.result_rows.specs.Rows.{OrderedOf}
-use Rattle.reply_text.specs.Inside.{AreHeads}
+use Rattle.reply_text.specs.Pieces.{AreHeads}
 use Rattle.reply_text.specs.Json.{comma_before}
 use Rattle.reply_text.specs.Pieces.{opening_text, printed_row}
 use Rattle.reply_values.specs.Size.{IsWrittenAt}

@@ -6,4 +6,4 @@ use denote.Param.{number}
 use Rattle.reply_text.proofs.push_rows.push_rows.Given as goal
 
 abbrev pub invariant-loop-row : goal.invariant-loop-row
-invariant-loop-row g l = l.out.items ≡ l.initial.out.items ++ concat (take l.row (row_pieces (JSON-type (number g.row.JSON)) l.rows.names 0 l.rows.rows))
+invariant-loop-row g l = l.out.items ≡ l.initial.out.items ++ concat (take l.row (row_pieces (JSON-type (number g.row.JSON)) l.rows.names l.rows.rows))

@@ -15,7 +15,7 @@ returns-then-branch-len-clause-long g c =
     let rows = c.args.rows.now in
     let n = c.in_ok-push_rows.field-0 in
     let opened = rw c.new-body.ensures.items at c.in_ok-push_opening.ensures in
-    let pushed = c.in_ok-push_rows.ensures.bytes ∙ ap (λ l. l ++ concat (take n (row_pieces json rows.names 0 rows.rows))) opened in
+    let pushed = c.in_ok-push_rows.ensures.bytes ∙ ap (λ l. l ++ concat (take n (row_pieces json rows.names rows.rows))) opened in
     let over : c.args.most < length c.push_rows.new.out.items = grind (arith, c.if-branch-len.true, c.len.ensures, c.in_ok-push_rows.ensures.all, c.push_rows.new.out.ok.0) in
     omega (arith, over, ap length pushed, body_long json rows n)
 
@@ -24,9 +24,9 @@ returns-clause-body g c =
     let json = JSON-type (number g.row.JSON) in
     let rows = c.args.rows.now in
     let n = c.in_ok-push_rows.field-0 in
-    let front = opening_text json rows ++ concat (take n (row_pieces json rows.names 0 rows.rows)) in
+    let front = opening_text json rows ++ concat (take n (row_pieces json rows.names rows.rows)) in
     let opened = rw c.new-body.ensures.items at c.in_ok-push_opening.ensures in
-    let pushed : c.push_rows.new.out.items ≡ front = c.in_ok-push_rows.ensures.bytes ∙ ap (λ l. l ++ concat (take n (row_pieces json rows.names 0 rows.rows))) opened in
+    let pushed : c.push_rows.new.out.items ≡ front = c.in_ok-push_rows.ensures.bytes ∙ ap (λ l. l ++ concat (take n (row_pieces json rows.names rows.rows))) opened in
     let whole = body_whole json rows n (omega (arith, c.if-branch-len.false, c.len.ensures)) in
     elim c.if-this-ne0.branch [
       | then-this-ne0+in_ok-extend_from_slice w ↦

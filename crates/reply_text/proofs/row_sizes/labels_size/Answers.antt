@@ -2,7 +2,7 @@ use Rattle.std.proofs.Common.{◌≡◌, ◌++◌, ◌∙◌, true, codes, lengt
 use Rattle.std.specs.List.{flat_map}
 use Rattle.std.proofs.lemmas.List.Folds.{flat_map-map}
 use Rattle.reply_text.specs.RowSizes.{labels_size}
-use Rattle.reply_values.specs.Json.{json_text}
+use Rattle.reply_values.specs.Printed.{json_text}
 use Rattle.reply_values.specs.Size.{told}
 use Rattle.reply_text.specs.contracts.row_sizes.labels_size.{JSON-type}
 use denote.Param.{number}

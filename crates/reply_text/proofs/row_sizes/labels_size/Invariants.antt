@@ -1,6 +1,6 @@
 use Rattle.std.proofs.Common.{◌≡◌, ◌++◌, codes, length, string_bytes, take}
 use Rattle.std.specs.List.{flat_map}
-use Rattle.reply_values.specs.Json.{json_text}
+use Rattle.reply_values.specs.Printed.{json_text}
 use Rattle.reply_values.specs.Size.{told}
 use Rattle.reply_text.proofs.row_sizes.labels_size.Given as goal
 

@@ -1,5 +1,5 @@
 -- The sign, and the number of millionths without it.
-use Rattle.std.proofs.Common.{◌≡◌, ◌++◌, length, take, sym, pos, ◌<ℤ◌, ◌≤ℤ◌, [], ◌∷◌, append_assoc, arith, rules, ap, ◌∙◌}
+use Rattle.std.proofs.Common.{◌≡◌, length, take, pos, ◌<ℤ◌, ◌≤ℤ◌, [], ◌∷◌, append_assoc, arith, rules, ap, ◌∙◌}
 use Rattle.std.specs.Int.{w128}
 use Rattle.std.specs.Prelude.{unsigned_abs}
 use Rattle.std.proofs.lemmas.Int.{ints, to_z-of_z}

@@ -1,5 +1,5 @@
 use Rattle.std.proofs.Common.{◌+◌, Bool, sym, ap, ap₂, ◌∙◌, subst}
-use Rattle.reply_text.specs.Inside.{cursor_pieces, AreRowsAt}
+use Rattle.reply_text.specs.Pieces.{cursor_pieces, AreRowsAt}
 use Rattle.reply_text.specs.Pieces.{body_pieces}
 use Rattle.reply_text.proofs.pieces.Pieces.put.Goals as goal
 

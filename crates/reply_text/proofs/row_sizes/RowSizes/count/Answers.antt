@@ -1,18 +1,15 @@
-use Rattle.std.proofs.Common.{length, arith}
-use Rattle.reply_text.specs.Pieces.{row_pieces}
-use Rattle.reply_text.specs.contracts.row_sizes.RowSizes.count.{JSON-type}
-use denote.Param.{number}
-use Rattle.reply_text.proofs.CountLemmas.{begin_few, rows_in}
+use Rattle.std.proofs.Common.{arith, drop, length-append, length-drop}
+use Rattle.std.proofs.lemmas.List.{length-take}
 use Rattle.reply_text.proofs.row_sizes.RowSizes.count.Goals as goal
 
-pub returns : goal.returns
-returns g c = λ rows names n frame begin are.
-    let json = JSON-type (number g.row.JSON) in
-    let first = c.args.columns.now.rows in
-    let loop = c.loop-self.invariant in
-    let len = are.len in
+pub loop-self-preserved : goal.loop-self-preserved
+loop-self-preserved g c =
+    let few = length-take c.min-count.result c.loop-self.room in
+    let others = length-drop c.min-count.result c.loop-self.room in
+    let whole = length-append c.count_few.new.room (drop c.min-count.result c.loop-self.room) in
     record {
-      len = omega (arith, len, loop.least, loop.most, c.loop-self-test.false, c.len.ensures);
-      within = omega (arith, are.within, begin_few rows names first begin);
-      counted = loop.counts (row_pieces json rows.names 0 rows.rows) (rows_in json rows names first (length c.args.columns.now.kinds) c.args.frame frame c.rows_are_wide.ensures begin) are.counted;
+      room = omega (arith, whole, few, others, c.count_few.auto.room, c.loop-self.invariant.room, c.min-count.ensures);
+      least = omega (arith, c.loop-self.invariant.least, c.count_few.ensures.len);
+      most = omega (arith, few, c.loop-self.invariant.room, c.loop-self.invariant.most, c.count_few.ensures.len, c.min-count.ensures, c.len-in-loop-self.ensures);
+      counts = λ rows names is begin has. c.count_few.ensures.sizes rows names is begin (c.loop-self.invariant.counts rows names is begin has);
     }

@@ -10,7 +10,7 @@ invariant-loop-self g l = record {
   room : length l.room ≡ 64;
   least : l.fn.self.len ≤ l.self.len;
   most : l.self.len ≤ max l.fn.self.len (length l.columns.rows);
-  counts : CountsMore (JSON-type (number g.row.JSON)) l.frame l.columns.rows l.fn.self l.self;
+  counts : CountsMore (JSON-type (number g.row.JSON)) l.frame l.columns l.fn.self l.self;
 }
 
 abbrev pub decreases-loop-self : goal.decreases-loop-self
