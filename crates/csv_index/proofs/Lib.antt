@@ -14,7 +14,6 @@ pub mod TreeCounts
 pub mod NextBlocks
 pub mod ReadingLemmas
 pub mod StructureLemmas
-pub mod Utf8Lemmas
 pub mod Tables
 pub mod FindLemmas
 pub mod PartLemmas

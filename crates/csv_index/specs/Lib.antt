@@ -6,8 +6,6 @@ pub mod Blocks
 pub mod Widths
 pub mod Reading
 pub mod Structure
-pub mod Indexing
-pub mod IndexSteps
 pub use Rattle.csv_grammar.specs.Bytes
 pub use Rattle.csv_grammar.specs.Records
 pub use Rattle.csv_grammar.specs.Faults

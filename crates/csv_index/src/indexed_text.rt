@@ -9,8 +9,8 @@ ghost use Rattle.csv_index.specs.Fault.{IsTextFault};
 use crate::fault::TextFault;
 use crate::fields::Fields;
 use crate::index::Index;
-use crate::indexing::{Indexed, Indexing};
 use crate::parts::Parts;
+use crate::utf8::text_of;
 use csv_fields::Raw;
 use std::alloc::{AllocError, Global};
 use std::marker::Model;
@@ -40,14 +40,9 @@ impl IndexedText {
         ensures table { IfOk result (IsRawTable bytes.items) }
         ensures fault { IfErr result (IsTextFault bytes.items) }
     {
-        let mut indexing = Indexing::start(bytes);
-        loop {
-            match indexing.step(alloc) {
-                Ok(Indexed::On(on)) => indexing = on,
-                Ok(Indexed::Over(file)) => return Ok(file),
-                Err(fault) => return Err(fault),
-            }
-        }
+        let text = text_of(bytes)?;
+        let index = Index::of_utf8(alloc, text.as_str().as_bytes())?;
+        Ok(IndexedText::of(text, index))
     }
 
     /// Returns the table that a text is, by its index.

@@ -14,7 +14,6 @@ use crate::fault::TextFault;
 use crate::reading::Reading;
 use crate::widths::Widths;
 use csv_grammar::{mark_len, one_structure};
-use lane_class::BLOCK;
 use std::alloc::Global;
 
 /// What is known of a file that is records.
@@ -85,14 +84,6 @@ pub fn read_on(reading: Reading, file: &[u8], most: usize) -> Result<Reading, Te
         Ok(reading) => Ok(reading),
         Err(left) => Err(fault_at(text, text.len() - left, mark)),
     }
-}
-
-/// Returns true if all of a file from its mark on is read.
-pub fn is_read(reading: &Reading, file: &[u8]) -> bool
-    ensures yes { result ≡ true → bytes_left (text_of file.now) reading.now ≡ 0 }
-    ensures no { result ≡ false → 0 < bytes_left (text_of file.now) reading.now }
-{
-    reading.blocks.masks.len() >= (file.len() - mark_len(file)).div_ceil(BLOCK)
 }
 
 /// Returns why a byte of the text is refused, by that byte and the one before it.
