@@ -1,12 +1,10 @@
 -- Items with a comma between each two.
-use Rattle.std.proofs.Common.{◌≡◌, ◌<◌, ◌≤◌, ℕ, zero, suc, ◌+◌, ◌-◌, List, [], ◌∷◌, ◌++◌, Option, Some, length, map, take, get_or, codes, refl, sym, ap, ◌∙◌, arith, append_assoc, append-nil, length-append, tests}
-use Rattle.std.specs.Fmt.{decimal}
+use Rattle.std.proofs.Common.{◌≡◌, ◌<◌, ◌≤◌, ℕ, zero, suc, ◌+◌, ◌-◌, List, [], ◌∷◌, ◌++◌, length, map, take, get_or, refl, sym, ap, ◌∙◌, arith, append_assoc, append-nil, length-append, tests}
 use Rattle.std.specs.List.{concat, flat_map, join_with_byte}
 use Rattle.std.proofs.lemmas.List.{length-map, length-take, length-take-le, map_more}
 use Rattle.std.proofs.lemmas.List.Concat.{concat_is}
 use Rattle.std.proofs.lemmas.List.Folds.{flat_map-map}
-use Rattle.reply_text.specs.Json.{comma_before, json_count}
-use Rattle.reply_values.specs.Printed.{json_text}
+use Rattle.reply_text.specs.Json.{comma_before}
 
 pub comma_after : (place : ℕ) → comma_before (suc place) ≡ 44 ∷ []
 comma_after place = grind (arith, tests)
@@ -55,8 +53,3 @@ concat_front (suc n) (piece ∷ pieces) = omega (arith, concat_front n pieces, l
 
 pub join_front : (n : ℕ) (pieces : List (List ℕ)) → length (join_with_byte 44 (take n pieces)) ≤ length (join_with_byte 44 pieces)
 join_front n pieces = omega (arith, concat_front n pieces, length-join (take n pieces), length-join pieces, length-take n pieces)
-
--- ---- the number of rows, written piece by piece
-
-pub count_written : (start a b d e : List ℕ) (count : Option ℕ) (n : ℕ) → count ≡ Some n → a ≡ start ++ json_text (codes "@odata.count") → b ≡ a ++ codes ":" → d ≡ b ++ decimal n → e ≡ d ++ codes "," → e ≡ start ++ json_count count
-count_written start a b d e count n known first second third fourth = rw (known, fourth, third, second, first) (simp append_assoc)

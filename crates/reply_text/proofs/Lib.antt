@@ -5,7 +5,6 @@ pub mod CountLemmas
 pub mod RecordLemmas
 pub mod TableLemmas
 pub mod NumberLemmas
-pub mod PrintLemmas
 pub mod TreeLemmas
 pub mod BoundLemmas
 pub mod WaitingLemmas

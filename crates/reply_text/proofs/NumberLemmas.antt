@@ -108,9 +108,6 @@ pub integer_is_number : (z : ℤ) → unsigned_abs z < 10 ^ 64 → IsNumber (sig
 integer_is_number (pos n) h = subst IsNumber (append-nil (decimal n)) (number_with n (decimal n) [] (whole n h) no_fraction)
 integer_is_number (negsuc n) h = subst (λ ds. IsNumber (45 ∷ ds)) (append-nil (decimal (suc n))) (negative_with (suc n) (decimal (suc n)) [] (whole (suc n) h) no_fraction)
 
-pub count_is_number : (n : ℕ) → n < 10 ^ 64 → IsNumber (decimal n)
-count_is_number n h = integer_is_number (pos n) h
-
 -- ---- decimals
 
 six_are_digits : (n : ℕ) → n < 1_000_000 → AreDigits (six_digits n)

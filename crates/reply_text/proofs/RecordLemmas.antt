@@ -2,6 +2,8 @@
 use Rattle.std.proofs.Common.{◌≡◌, ℕ, zero, suc, ◌+◌, ◌<◌, ◌≤◌, ◌/◌, ◌%◌, Bool, true, false, cond, eqb, ltb, ℤ, pos, negsuc, List, [], ◌∷◌, ◌++◌, length, map, None, refl, sym, ap, ap₂, ◌∙◌, append-nil, arith, tests}
 use Rattle.std.specs.Prelude.{IsTrue, ◌||◌, not, ◌==◌, if◌then◌else◌, unsigned_abs}
 use Rattle.std.proofs.lemmas.Bool.{false≢true, or_parts}
+use Rattle.std.proofs.lemmas.List.{length-map, map-id}
+use Rattle.std.proofs.lemmas.Simd.{map-map}
 use Rattle.std.specs.List.{flat_map, join_with_byte, list_any, AllByRecursion}
 use Rattle.std.specs.Fmt.{digit_glyph, digits_onto, digits, decimal, signed_decimal}
 use Rattle.csv_grammar.specs.Bytes.{comma, carriage_return, line_feed}
@@ -157,11 +159,7 @@ print_row values = ap (λ w. w ++ carriage_return ∷ line_feed ∷ []) (print_r
 print_names : (names : List (List ℕ)) → print_line (line_of (map unquoted names)) ≡ csv_line names
 print_names names =
     ap (λ w. w ++ carriage_return ∷ line_feed ∷ [])
-    (print_record_of unquoted (λ name. name) (λ name. refl) names ∙ ap (join_with_byte comma) (map_itself names))
-  where
-    map_itself : (names : List (List ℕ)) → map (λ name. name) names ≡ names
-    map_itself [] = refl
-    map_itself (name ∷ names) = ap (λ w. name ∷ w) (map_itself names)
+    (print_record_of unquoted (λ name. name) (λ name. refl) names ∙ ap (join_with_byte comma) (map-id names))
 
 print_rows : (rows : List (List CellValue)) → flat_map print_line (map (λ row. line_of (row_fields row)) rows) ≡ flat_map row_line rows
 print_rows [] = refl
@@ -170,22 +168,10 @@ print_rows (row ∷ rows) = ap₂ (λ a b. a ++ b) (print_row row) (print_rows r
 rows_are : (rows : List (List CellValue)) → AllByRecursion (λ row. 0 < length row) rows
     → AllByRecursion (λ line. IsRecord line.fields) (map (λ row. line_of (row_fields row)) rows)
 rows_are [] some = tt
-rows_are (row ∷ rows) some = ((some_field row some.0, fields_are row), rows_are rows some.1)
-  where
-    some_field : (row : List CellValue) → 0 < length row → 0 < length (row_fields row)
-    some_field [] h = h
-    some_field (value ∷ row) h = omega arith
+rows_are (row ∷ rows) some = ((omega (arith, some.0, length-map row field_of_value), fields_are row), rows_are rows some.1)
 
 names_record : (names : List (List ℕ)) → 0 < length names → AllByRecursion (λ name. IsField (unquoted name)) names → IsRecord (map unquoted names)
-names_record names some plain = (some_field names some, names_are names plain)
-  where
-    some_field : (names : List (List ℕ)) → 0 < length names → 0 < length (map unquoted names)
-    some_field [] h = h
-    some_field (name ∷ names) h = omega arith
-
-fields_of_lines : (rows : List (List CellValue)) → map (λ (line : Line). line.fields) (map (λ row. line_of (row_fields row)) rows) ≡ map row_fields rows
-fields_of_lines [] = refl
-fields_of_lines (row ∷ rows) = ap (λ w. row_fields row ∷ w) (fields_of_lines rows)
+names_record names some plain = (omega (arith, some, length-map names unquoted), names_are names plain)
 
 -- the body of rows has the records of the rows
 pub rows_are_records : (rows : RowsOf) → FitCsv rows → AreRecords (csv_text rows) (records_of_rows rows)
@@ -193,5 +179,5 @@ rows_are_records rows lines = record {
   tree = record { lines = lines_of rows; last = None };
   valid = record { lines = (names_record rows.names lines.some lines.names, rows_are rows.rows lines.values); last = tt };
   printed = sym (append-nil _ ∙ ap₂ (λ a b. a ++ b) (print_names rows.names) (print_rows rows.rows));
-  are = sym (append-nil _ ∙ ap (λ w. map unquoted rows.names ∷ w) (fields_of_lines rows.rows));
+  are = sym (append-nil _ ∙ ap (λ w. map unquoted rows.names ∷ w) (map-map (λ (line : Line). line.fields) (λ row. line_of (row_fields row)) rows.rows));
 }

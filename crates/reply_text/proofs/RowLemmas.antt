@@ -55,6 +55,10 @@ pub head_is : {A : Type 0} (json : Bool) (names : List (List ℕ)) (heads : List
 head_is json names heads col head bytes are inside is kept =
     kept ∙ ap (λ h. h.items) is ∙ sym (get_or-map (λ h. h.items) heads col head [] (omega (arith, are.count, inside))) ∙ are.heads_are col inside
 
+pub csv_head : (json : Bool) (names : List (List ℕ)) (col : ℕ) (bytes : List ℕ) → bytes ≡ value_head json names col → not json ≡ true → bytes ≡ comma_before col
+csv_head true names col bytes is csv = let no : ⊥ = cc in absurd no
+csv_head false names col bytes is csv = is ∙ append-nil (comma_before col)
+
 -- a value after what comes before it
 member_at : (json : Bool) (names : List (List ℕ)) (values : List CellValue) (col : ℕ) (value : CellValue) → length values ≡ length names → col < length names → get_or values col value ≡ value
     → comma_before col ++ get_or (members json names values) col [] ≡ value_head json names col ++ printed_value json value

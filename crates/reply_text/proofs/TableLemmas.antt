@@ -4,6 +4,7 @@ use Rattle.std.specs.Prelude.{option_map}
 use Rattle.std.specs.List.{AllByRecursion, list_all}
 use Rattle.std.specs.Char.{is_ascii_alphabetic}
 use Rattle.std.proofs.lemmas.Bool.{and_parts}
+use Rattle.std.proofs.lemmas.List.{length-map}
 use Rattle.std.proofs.lemmas.List.Elements.{All-from_recursion, recursion_from_All}
 use Rattle.csv_grammar.specs.Records.{Field, content, unquoted, IsField}
 use Rattle.csv_grammar.specs.Files.{HasWidth}
@@ -96,10 +97,6 @@ wide_some width (fields ∷ records) some wide = (omega (arith, wide.0), wide_so
 
 -- ---- tables
 
-named_some : (columns : List ColumnOf) → 1 ≤ length columns → 0 < length (map (λ (column : ColumnOf). column.name) columns)
-named_some [] some = absurd (omega (arith, some))
-named_some (column ∷ columns) some = omega arith
-
 -- the table of an accepted schema
 table_fits : (limits : LimitsOf) (limit : ℕ) (file : Option (List ℕ)) (schema : SchemaOf) (table : TableOf) → IsAccepted limits schema
     → HasTable limit file schema table → FitCsv (rows_of_table table)
@@ -107,7 +104,7 @@ table_fits limits limit file schema table accepted has =
     let is = has.is.cells in
     let some : 0 < length schema.columns = omega (arith, accepted.some) in
     record {
-      some = rw is.of_schema (named_some schema.columns accepted.some);
+      some = rw is.of_schema (omega (arith, accepted.some, length-map schema.columns (λ (column : ColumnOf). column.name)));
       names = rw is.of_schema (names_plain schema.columns (recursion_from_All _ schema.columns accepted.names));
       values = rows_some 0 schema.columns is.records table.rows some
           (wide_some (length is.header) is.records (header_some schema.columns is.header some is.header_matches) is.is.widths) is.values;

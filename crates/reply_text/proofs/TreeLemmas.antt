@@ -1,25 +1,26 @@
--- The bodies of answers are the texts of their trees.
-use Rattle.std.proofs.Common.{◌≡◌, ℕ, ℤ, ◌<◌, ◌≤◌, ◌/◌, ◌%◌, true, false, Option, None, Some, List, [], ◌∷◌, ◌++◌, refl, sym, ap, ap₂, ◌∙◌, arith, append_assoc}
+-- The bodies of answers are the texts of their trees, as the kit's `json` prints their tokens.
+use Rattle.std.proofs.Common.{◌≡◌, ℕ, ℤ, pos, ◌<◌, ◌≤◌, ◌/◌, ◌%◌, true, false, Option, None, Some, List, [], ◌∷◌, ◌++◌, refl, sym, ap, ap₂, ◌∙◌, arith, append_assoc, append-nil}
 use Rattle.std.specs.Prelude.{◌^◌, codes, map, unsigned_abs, IfSome}
-use Rattle.std.specs.List.{join_with_byte, zip, AllByRecursion}
+use Rattle.std.specs.List.{flat_map, join_with_byte, zip, AllByRecursion}
 use Rattle.std.specs.Fmt.{decimal}
 use Rattle.std.proofs.Math.Nat.{max-le}
 use Rattle.jiff_fmt.specs.Text.{pad2}
-use Rattle.json.specs.Print.{escape, escape_byte, quoted}
+use Rattle.json.specs.Token.{Token, end_object}
+use Rattle.json.specs.Print.{escape, escape_byte, print, print_from, quoted}
 use Rattle.json.specs.Json as json
 use Rattle.json.specs.Json.{document}
-use Rattle.json.specs.Tree.{depth, items_depth, members_depth, HasNumbers, ItemsHaveNumbers, MembersHaveNumbers}
+use Rattle.json.specs.Tree.{depth, items_depth, items_tokens, json_tokens, members_depth, members_tokens, HasNumbers, ItemsHaveNumbers, MembersHaveNumbers}
 use Rattle.json.proofs.Printed.Strings.{escape_byte_plain}
 use Rattle.json.proofs.Printed.Trees.{document-print}
 use Rattle.cell_types.specs.Value as cell
 use Rattle.cell_types.specs.Value.{CellValue, null, integer, text, boolean, date}
+use Rattle.reply_values.specs.Printed.{json_text, printed_value}
 use Rattle.reply_values.specs.Value.{day_text}
 use Rattle.reply_text.specs.Json.{json_count, json_member, json_row}
-use Rattle.reply_values.specs.Printed.{json_text, printed_value}
 use Rattle.reply_text.specs.Laws.{body_of, with_count, items_of, json_of, members_of, object_of, FitsJson}
 use Rattle.reply_text.proofs.ByteLemmas.{all-day}
-use Rattle.reply_text.proofs.NumberLemmas.{count_is_number, decimal_is_number, integer_is_number}
-use Rattle.reply_text.proofs.PrintLemmas.{items_text, members_text, print_tree, tree_text}
+use Rattle.reply_text.proofs.JoinLemmas.{join_is}
+use Rattle.reply_text.proofs.NumberLemmas.{decimal_is_number, integer_is_number}
 
 -- ---- dates
 
@@ -47,73 +48,88 @@ day_low year month day y m d =
 abbrev FitJson : List (List CellValue) → Type 0
 FitJson rows = AllByRecursion (AllByRecursion FitsJson) rows
 
--- the text of a value is that of its tree, which has numbers of JSON and is flat
+-- the tokens of a value are printed as its text; its tree has numbers of JSON and is flat
 record IsValue (value : CellValue) : Type 0 where
-  tree : printed_value true value ≡ tree_text (json_of value)
+  printed : (ts : List Token) → print_from false (json_tokens (json_of value) ++ ts) ≡ printed_value true value ++ print_from true ts
   numbers : HasNumbers (json_of value)
   flat : depth (json_of value) ≤ 0
 
 is_value : (value : CellValue) → FitsJson value → IsValue value
-is_value null fits = record { tree = refl; numbers = tt; flat = omega arith }
-is_value (integer number) fits = record { tree = refl; numbers = integer_is_number number fits; flat = omega arith }
-is_value (text bytes) fits = record { tree = refl; numbers = tt; flat = omega arith }
-is_value (boolean true) fits = record { tree = refl; numbers = tt; flat = omega arith }
-is_value (boolean false) fits = record { tree = refl; numbers = tt; flat = omega arith }
+unfolding print_from
+is_value null fits = record { printed = λ ts. refl; numbers = tt; flat = omega arith }
+is_value (integer number) fits = record { printed = λ ts. refl; numbers = integer_is_number number fits; flat = omega arith }
+is_value (text bytes) fits = record { printed = λ ts. refl; numbers = tt; flat = omega arith }
+is_value (boolean true) fits = record { printed = λ ts. refl; numbers = tt; flat = omega arith }
+is_value (boolean false) fits = record { printed = λ ts. refl; numbers = tt; flat = omega arith }
 is_value (date year month day) fits = record {
-  tree = ap (λ inside. 34 ∷ (inside ++ 34 ∷ [])) (sym (escape_low (day_text year month day) (day_low year month day fits.0 fits.1 fits.2)));
+  printed = λ ts. ap (λ inside. (34 ∷ (inside ++ 34 ∷ [])) ++ print_from true ts) (escape_low (day_text year month day) (day_low year month day fits.0 fits.1 fits.2));
   numbers = tt;
   flat = omega arith;
 }
-is_value (cell.decimal millionths) fits = record { tree = refl; numbers = decimal_is_number millionths fits; flat = omega arith }
+is_value (cell.decimal millionths) fits = record { printed = λ ts. refl; numbers = decimal_is_number millionths fits; flat = omega arith }
 
--- a name, a colon and a value, and what stands after them
-named : (name value rest : List ℕ) → (json_text name ++ codes ":" ++ value) ++ rest ≡ quoted name ++ 58 ∷ (value ++ rest)
-named name value rest = append_assoc (json_text name ++ 58 ∷ []) value rest ∙ append_assoc (json_text name) (58 ∷ []) (value ++ rest)
+-- a member, and what is printed after it
+member_printed : (member : List ℕ × CellValue) (others : json.Members) (ts : List Token) (after : List ℕ) → FitsJson member.1 → print_from true (members_tokens others ++ ts) ≡ after
+    → (quoted member.0 ++ 58 ∷ []) ++ print_from false ((json_tokens (json_of member.1) ++ members_tokens others) ++ ts) ≡ json_member member ++ after
+member_printed member others ts after fits is =
+    let value = ap (print_from false) (append_assoc (json_tokens (json_of member.1)) (members_tokens others) ts) ∙ (is_value member.1 fits).printed (members_tokens others ++ ts) in
+    ap (λ s. (quoted member.0 ++ 58 ∷ []) ++ s) (value ∙ ap (λ s. printed_value true member.1 ++ s) is) ∙ sym (append_assoc (quoted member.0 ++ 58 ∷ []) (printed_value true member.1) after)
 
-member_is : (member : List ℕ × CellValue) (rest : List ℕ) → FitsJson member.1 → json_member member ++ rest ≡ quoted member.0 ++ 58 ∷ (tree_text (json_of member.1) ++ rest)
-member_is member rest fits = named member.0 (printed_value true member.1) rest ∙ ap (λ v. quoted member.0 ++ 58 ∷ (v ++ rest)) (is_value member.1 fits).tree
+others_printed : (members : List (List ℕ × CellValue)) (ts : List Token) → AllByRecursion (λ (m : List ℕ × CellValue). FitsJson m.1) members
+    → print_from true (members_tokens (members_of members) ++ ts) ≡ flat_map (λ m. 44 ∷ json_member m) members ++ 125 ∷ print_from true ts
+unfolding print_from
+others_printed [] ts fit = refl
+others_printed (m ∷ ms) ts fit =
+    ap (λ s. 44 ∷ s) (member_printed m (members_of ms) ts _ fit.0 (others_printed ms ts fit.1)) ∙ sym (append_assoc (44 ∷ json_member m) (flat_map (λ n. 44 ∷ json_member n) ms) (125 ∷ print_from true ts))
 
-members_are : (members : List (List ℕ × CellValue)) → AllByRecursion (λ (m : List ℕ × CellValue). FitsJson m.1) members
-    → join_with_byte 44 (map json_member members) ++ 125 ∷ [] ≡ members_text false (members_of members)
-members_are [] fit = refl
-members_are (m ∷ []) fit = member_is m (125 ∷ []) fit.0
-members_are (m ∷ n ∷ ms) fit =
-    append_assoc (json_member m) (44 ∷ join_with_byte 44 (map json_member (n ∷ ms))) (125 ∷ [])
-    ∙ member_is m (44 ∷ (join_with_byte 44 (map json_member (n ∷ ms)) ++ 125 ∷ [])) fit.0
-    ∙ ap (λ rest. quoted m.0 ++ 58 ∷ (tree_text (json_of m.1) ++ 44 ∷ rest)) (members_are (n ∷ ms) fit.1)
+members_printed : (members : List (List ℕ × CellValue)) (ts : List Token) → AllByRecursion (λ (m : List ℕ × CellValue). FitsJson m.1) members
+    → print_from false (members_tokens (members_of members) ++ ts) ≡ (join_with_byte 44 (map json_member members) ++ 125 ∷ []) ++ print_from true ts
+unfolding print_from
+members_printed [] ts fit = refl
+members_printed (m ∷ ms) ts fit =
+    let others = flat_map (λ n. 44 ∷ json_member n) ms in
+    member_printed m (members_of ms) ts _ fit.0 (others_printed ms ts fit.1) ∙ sym (append_assoc (json_member m) others (125 ∷ print_from true ts))
+    ∙ ap (λ l. l ++ 125 ∷ print_from true ts) (sym (join_is json_member m ms)) ∙ sym (append_assoc (join_with_byte 44 (map json_member (m ∷ ms))) (125 ∷ []) (print_from true ts))
 
 zip_fits : (names : List (List ℕ)) (values : List CellValue) → AllByRecursion FitsJson values → AllByRecursion (λ (m : List ℕ × CellValue). FitsJson m.1) (zip names values)
 zip_fits [] values fit = tt
 zip_fits (name ∷ names) [] fit = tt
 zip_fits (name ∷ names) (value ∷ values) fit = (fit.0, zip_fits names values fit.1)
 
-pub row_is_tree : (names : List (List ℕ)) (values : List CellValue) → AllByRecursion FitsJson values → json_row names values ≡ tree_text (object_of names values)
-row_is_tree names values fit = ap (λ rest. 123 ∷ rest) (members_are (zip names values) (zip_fits names values fit))
+row_printed : (names : List (List ℕ)) (values : List CellValue) (ts : List Token) → AllByRecursion FitsJson values
+    → print_from false (json_tokens (object_of names values) ++ ts) ≡ json_row names values ++ print_from true ts
+unfolding print_from
+row_printed names values ts fit = ap (λ s. 123 ∷ s) (members_printed (zip names values) ts (zip_fits names values fit))
 
-rows_are : (names : List (List ℕ)) (rows : List (List CellValue)) (rest : List ℕ) → FitJson rows
-    → join_with_byte 44 (map (json_row names) rows) ++ 93 ∷ rest ≡ items_text false (items_of names rows) ++ rest
-rows_are names [] rest fit = refl
-rows_are names (row ∷ []) rest fit = ap (λ r. r ++ 93 ∷ rest) (row_is_tree names row fit.0) ∙ sym (append_assoc (tree_text (object_of names row)) (93 ∷ []) rest)
-rows_are names (row ∷ next ∷ rows) rest fit =
-    append_assoc (json_row names row) (44 ∷ join_with_byte 44 (map (json_row names) (next ∷ rows))) (93 ∷ rest)
-    ∙ ap₂ (λ r others. r ++ 44 ∷ others) (row_is_tree names row fit.0) (rows_are names (next ∷ rows) rest fit.1)
-    ∙ sym (append_assoc (tree_text (object_of names row)) (44 ∷ items_text false (items_of names (next ∷ rows))) rest)
+others_of : (names : List (List ℕ)) (rows : List (List CellValue)) (ts : List Token) → FitJson rows
+    → print_from true (items_tokens (items_of names rows) ++ ts) ≡ flat_map (λ row. 44 ∷ json_row names row) rows ++ 93 ∷ print_from true ts
+unfolding print_from
+others_of names [] ts fit = refl
+others_of names (row ∷ rows) ts fit =
+    let rest = items_tokens (items_of names rows) in
+    ap (print_from true) (append_assoc (json_tokens (object_of names row)) rest ts) ∙ ap (λ s. 44 ∷ s) (row_printed names row (rest ++ ts) fit.0 ∙ ap (λ s. json_row names row ++ s) (others_of names rows ts fit.1))
+    ∙ sym (append_assoc (44 ∷ json_row names row) (flat_map (λ r. 44 ∷ json_row names r) rows) (93 ∷ print_from true ts))
 
-value_is : (names : List (List ℕ)) (rows : List (List CellValue)) → FitJson rows
-    → json_text (codes "value") ++ 58 ∷ 91 ∷ (join_with_byte 44 (map (json_row names) rows) ++ 93 ∷ 125 ∷ []) ≡ members_text false (json.member (codes "value") (json.array (items_of names rows)) json.no_members)
-value_is names rows fit = ap (λ items. json_text (codes "value") ++ 58 ∷ 91 ∷ items) (rows_are names rows (125 ∷ []) fit)
+rows_printed : (names : List (List ℕ)) (rows : List (List CellValue)) (ts : List Token) → FitJson rows
+    → print_from false (items_tokens (items_of names rows) ++ ts) ≡ join_with_byte 44 (map (json_row names) rows) ++ 93 ∷ print_from true ts
+unfolding print_from
+rows_printed names [] ts fit = refl
+rows_printed names (row ∷ rows) ts fit =
+    let rest = items_tokens (items_of names rows) in
+    ap (print_from false) (append_assoc (json_tokens (object_of names row)) rest ts) ∙ row_printed names row (rest ++ ts) fit.0 ∙ ap (λ s. json_row names row ++ s) (others_of names rows ts fit.1)
+    ∙ sym (append_assoc (json_row names row) (flat_map (λ r. 44 ∷ json_row names r) rows) (93 ∷ print_from true ts)) ∙ ap (λ l. l ++ 93 ∷ print_from true ts) (sym (join_is (json_row names) row rows))
 
 regroup_count : (a b c d e f : List ℕ) → ((((a ++ b) ++ c) ++ d) ++ e) ++ f ≡ a ++ (b ++ (c ++ (d ++ (e ++ f))))
 regroup_count a b c d e f = simp append_assoc
 
-pub body_is_tree : (names : List (List ℕ)) (rows : List (List CellValue)) (count : Option ℕ) → FitJson rows
-    → codes "{" ++ json_count count ++ json_text (codes "value") ++ codes ":[" ++ join_with_byte 44 (map (json_row names) rows) ++ codes "]}" ≡ tree_text (body_of names rows count)
-unfolding escape_byte
-body_is_tree names rows None fit = ap (λ rest. 123 ∷ rest) (value_is names rows fit)
-body_is_tree names rows (Some n) fit =
-    ap (λ rest. 123 ∷ (json_text (codes "@odata.count") ++ 58 ∷ rest))
-    (regroup_count (decimal n) (44 ∷ []) (json_text (codes "value")) (58 ∷ 91 ∷ []) (join_with_byte 44 (map (json_row names) rows)) (93 ∷ 125 ∷ []))
-    ∙ ap (λ rest. 123 ∷ (json_text (codes "@odata.count") ++ 58 ∷ (decimal n ++ 44 ∷ rest))) (value_is names rows fit)
+body_printed : (names : List (List ℕ)) (rows : List (List CellValue)) (count : Option ℕ) → FitJson rows
+    → print (json_tokens (body_of names rows count)) ≡ codes "{" ++ json_count count ++ json_text (codes "value") ++ codes ":[" ++ join_with_byte 44 (map (json_row names) rows) ++ codes "]}"
+unfolding escape_byte print_from
+body_printed names rows None fit = ap (λ rest. 123 ∷ (json_text (codes "value") ++ 58 ∷ 91 ∷ rest)) (rows_printed names rows (end_object ∷ []) fit)
+body_printed names rows (Some n) fit =
+    ap (λ rest. 123 ∷ (json_text (codes "@odata.count") ++ 58 ∷ (decimal n ++ 44 ∷ (json_text (codes "value") ++ 58 ∷ 91 ∷ rest)))) (rows_printed names rows (end_object ∷ []) fit)
+    ∙ ap (λ rest. 123 ∷ (json_text (codes "@odata.count") ++ 58 ∷ rest))
+    (sym (regroup_count (decimal n) (44 ∷ []) (json_text (codes "value")) (58 ∷ 91 ∷ []) (join_with_byte 44 (map (json_row names) rows)) (93 ∷ 125 ∷ [])))
 
 -- ---- trees are read back
 
@@ -127,7 +143,7 @@ items_numbers names (row ∷ rows) fit = (members_numbers (zip names row) (zip_f
 
 body_numbers : (names : List (List ℕ)) (rows : List (List CellValue)) (count : Option ℕ) → FitJson rows → IfSome count (λ n. n < 10 ^ 64) → HasNumbers (body_of names rows count)
 body_numbers names rows None fit counts = (items_numbers names rows fit, tt)
-body_numbers names rows (Some n) fit counts = (count_is_number n counts, (items_numbers names rows fit, tt))
+body_numbers names rows (Some n) fit counts = (integer_is_number (pos n) counts, (items_numbers names rows fit, tt))
 
 members_flat : (members : List (List ℕ × CellValue)) → AllByRecursion (λ (m : List ℕ × CellValue). FitsJson m.1) members → members_depth (members_of members) ≤ 0
 members_flat [] fit = omega arith
@@ -151,21 +167,26 @@ body_flat names rows (Some n) fit =
     let two : members_depth (with_count (Some n) (json.member (codes "value") (json.array (items_of names rows)) json.no_members)) ≤ 2 = max-le (omega arith) one in
     omega (arith, two)
 
--- a text that is that of a tree is read as it
-pub text_is_read : (bytes : List ℕ) (tree : json.Json) → bytes ≡ tree_text tree → HasNumbers tree → depth tree ≤ 128 → document bytes ≡ Some tree
-text_is_read bytes tree is numbers flat = ap document (is ∙ sym (print_tree tree)) ∙ document-print tree numbers flat
+-- a text as which a tree is printed is read as that
+text_is_read : (bytes : List ℕ) (tree : json.Json) → print (json_tokens tree) ≡ bytes → HasNumbers tree → depth tree ≤ 128 → document bytes ≡ Some tree
+text_is_read bytes tree is numbers flat = ap document (sym is) ∙ document-print tree numbers flat
+
+-- and where more tokens may come after its own
+alone_is_read : (bytes : List ℕ) (tree : json.Json) → print_from false (json_tokens tree ++ []) ≡ bytes ++ print_from true [] → HasNumbers tree → depth tree ≤ 128 → document bytes ≡ Some tree
+unfolding print_from
+alone_is_read bytes tree is = text_is_read bytes tree (ap print (sym (append-nil (json_tokens tree))) ∙ is ∙ append-nil bytes)
 
 pub value_is_read : (value : CellValue) → FitsJson value → document (printed_value true value) ≡ Some (json_of value)
 value_is_read value fits =
     let is = is_value value fits in
     let flat = is.flat in
-    text_is_read (printed_value true value) (json_of value) is.tree is.numbers (omega (arith, flat))
+    alone_is_read (printed_value true value) (json_of value) (is.printed []) is.numbers (omega (arith, flat))
 
 pub row_is_read : (names : List (List ℕ)) (values : List CellValue) → AllByRecursion FitsJson values → document (json_row names values) ≡ Some (object_of names values)
 row_is_read names values fit =
     let flat = row_flat names values fit in
-    text_is_read (json_row names values) (object_of names values) (row_is_tree names values fit) (members_numbers (zip names values) (zip_fits names values fit)) (omega (arith, flat))
+    alone_is_read (json_row names values) (object_of names values) (row_printed names values [] fit) (members_numbers (zip names values) (zip_fits names values fit)) (omega (arith, flat))
 
 pub body_is_read : (names : List (List ℕ)) (rows : List (List CellValue)) (count : Option ℕ) → FitJson rows → IfSome count (λ n. n < 10 ^ 64)
     → document (codes "{" ++ json_count count ++ json_text (codes "value") ++ codes ":[" ++ join_with_byte 44 (map (json_row names) rows) ++ codes "]}") ≡ Some (body_of names rows count)
-body_is_read names rows count fit counts = text_is_read _ (body_of names rows count) (body_is_tree names rows count fit) (body_numbers names rows count fit counts) (body_flat names rows count fit)
+body_is_read names rows count fit counts = text_is_read _ (body_of names rows count) (body_printed names rows count fit) (body_numbers names rows count fit counts) (body_flat names rows count fit)

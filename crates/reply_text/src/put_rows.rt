@@ -1,5 +1,5 @@
 //! Rows in JSON or in CSV, written into room that is there.
-ghost use Rattle.std.specs.Prelude.{◌+◌, [], ◌<◌, ◌≤◌, get_or, if◌then◌else◌, length};
+ghost use Rattle.std.specs.Prelude.{◌≡◌, ◌+◌, [], ◌<◌, ◌≤◌, IsTrue, get_or, if◌then◌else◌, length, not};
 ghost use Rattle.reply_text.specs.Pieces.{AreHeads};
 ghost use Rattle.reply_text.specs.Json.{comma_before};
 ghost use Rattle.reply_text.specs.Pieces.{printed_row};
@@ -21,6 +21,19 @@ pub(crate) fn put_comma<const COMMAS: bool>(out: &mut [u8], at: usize, place: us
     put_byte(out, at, b',')
 }
 
+/// Writes what comes before the value with that place in a row: in CSV its comma, which is quicker written than copied.
+#[inline(always)]
+fn put_head<const JSON: bool>(out: &mut [u8], at: usize, head: &[u8], col: usize) -> usize
+    requires comma { IsTrue (not JSON) → head.now ≡ comma_before col }
+    requires room { at + length head.now ≤ length out.old }
+    ensures { IsWrittenAt out.old out.new at result head.now }
+{
+    if JSON {
+        return put_piece(out, at, head);
+    }
+    put_comma::<true>(out, at, col)
+}
+
 /// Writes the row with a number.
 #[inline(always)]
 pub(crate) fn put_row<const JSON: bool>(
@@ -40,7 +53,7 @@ pub(crate) fn put_row<const JSON: bool>(
     let values = rows.row_ref(row);
     let mut end = if JSON { put_byte(out, at, b'{') } else { at };
     for col in 0..rows.width() {
-        end = put_piece(out, end, heads[col].as_slice());
+        end = put_head::<JSON>(out, end, heads[col].as_slice(), col);
         end = put_cell::<JSON>(out, end, values.cell(col));
     }
     if JSON {

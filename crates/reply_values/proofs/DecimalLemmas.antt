@@ -1,11 +1,12 @@
 -- Zeros at the end of digits, and the text with its sign.
-use Rattle.std.proofs.Common.{◌≡◌, ℕ, ℤ, pos, negsuc, ◌<ℤ◌, ◌≤ℤ◌, ◌+◌, ◌-◌, ◌<◌, ◌≤◌, ◌&&◌, Bool, true, false, cond, List, [], ◌∷◌, ◌++◌, length, get_or, take, refl, sym, ap, ap₂, ◌∙◌, arith}
+use Rattle.std.proofs.Common.{◌≡◌, ℕ, ℤ, pos, negsuc, ◌<ℤ◌, ◌≤ℤ◌, SFits, of_z, to_z, ◌+◌, ◌-◌, ◌<◌, ◌≤◌, ◌&&◌, Bool, true, false, cond, List, [], ◌∷◌, ◌++◌, length, get_or, take, refl, sym, ap, ap₂, ◌∙◌, arith}
+use Rattle.std.specs.Int.{w128}
 use Rattle.std.specs.List.{list_all}
 use Rattle.std.proofs.lemmas.Bool.{false_from_ne_true, eqb-true}
 use Rattle.std.proofs.lemmas.List.{take_more}
 use Rattle.std.proofs.lemmas.List.Folds.{list_all-append}
 use Rattle.std.specs.Prelude.{unsigned_abs}
-use Rattle.std.proofs.lemmas.Int.{ints}
+use Rattle.std.proofs.lemmas.Int.{ints, to_z-of_z}
 use Rattle.std.proofs.Math.Bool.{and-true, and-false}
 use Rattle.cell_types.specs.Decimal.{decimal_text, is_zero, millionths_text, without_last_zeros}
 
@@ -42,12 +43,13 @@ without-none ds rest n none is = let zero : n ≡ 0 = omega arith in ap (λ k. t
 
 -- ---- the sign
 
-pub text-negative : (z : ℤ) → z <ℤ pos 0 → decimal_text z ≡ 45 ∷ millionths_text (unsigned_abs z)
+-- a number that is taken without its sign
+pub text-negative : (z : ℤ) (n : ℕ) → SFits w128 z → z <ℤ pos 0 → n ≡ unsigned_abs (to_z w128 (of_z w128 z)) → decimal_text z ≡ 45 ∷ millionths_text n
 unfolding decimal_text
-text-negative (pos n) below = absurd (omega (arith, ints, below))
-text-negative (negsuc n) below = refl
+text-negative (pos k) n fits below is = absurd (omega (arith, ints, below))
+text-negative (negsuc k) n fits below is = ap (λ m. 45 ∷ millionths_text m) (sym (is ∙ ap unsigned_abs (to_z-of_z w128 (negsuc k) fits)))
 
-pub text-other : (z : ℤ) → pos 0 ≤ℤ z → decimal_text z ≡ millionths_text (unsigned_abs z)
+pub text-other : (z : ℤ) (n : ℕ) → SFits w128 z → pos 0 ≤ℤ z → n ≡ unsigned_abs (to_z w128 (of_z w128 z)) → decimal_text z ≡ millionths_text n
 unfolding decimal_text
-text-other (pos n) above = refl
-text-other (negsuc n) above = absurd (omega (arith, ints, above))
+text-other (pos k) n fits above is = ap millionths_text (sym (is ∙ ap unsigned_abs (to_z-of_z w128 (pos k) fits)))
+text-other (negsuc k) n fits above is = absurd (omega (arith, ints, above))

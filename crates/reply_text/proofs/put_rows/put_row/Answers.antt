@@ -7,11 +7,18 @@ use Rattle.reply_values.specs.Printed.{printed_value}
 use Rattle.reply_values.specs.Size.{IsWrittenAt}
 use Rattle.reply_text.specs.contracts.put_rows.put_row.{JSON-type}
 use denote.Param.{number}
-use Rattle.reply_text.proofs.RowLemmas.{after_values, before_values, head_is, is_set, lent_value, lent_width, member_fits, member_more, members, put_then, row_ends}
+use Rattle.reply_text.proofs.RowLemmas.{after_values, before_values, csv_head, head_is, is_set, lent_value, lent_width, member_fits, member_more, members, put_then, row_ends}
 use Rattle.reply_text.proofs.put_rows.put_row.Goals as goal
 
-pub put_piece-end-requires : goal.put_piece-end-requires
-put_piece-end-requires g c =
+pub put_head-end-requires-clause-comma : goal.put_head-end-requires-clause-comma
+put_head-end-requires-clause-comma g c =
+    let json = JSON-type (number g.row.JSON) in
+    let names = c.args.rows.now.names in
+    let inside : c.loop-col.col < length names = omega (arith, c.loop-col-test.true, c.width-col-end.ensures.names) in
+    csv_head json names c.loop-col.col _ (head_is json names c.args.heads.now c.loop-col.col _ _ c.requires.heads inside c.index-heads-col.is c.as_slice.ensures.value)
+
+pub put_head-end-requires-clause-room : goal.put_head-end-requires-clause-room
+put_head-end-requires-clause-room g c =
     let json = JSON-type (number g.row.JSON) in
     let rows = c.args.rows.now in
     let values = get_or rows.rows c.args.row [] in
@@ -30,7 +37,7 @@ put_cell-end-requires g c =
     let inside : c.loop-col.col < length rows.names = omega (arith, c.loop-col-test.true, c.width-col-end.ensures.names) in
     let value = lent_value rows.rows c.args.row c.loop-col.col _ (cell_view c.cell.result) c.row_ref-values.ensures.row c.cell.ensures in
     let head = head_is json rows.names c.args.heads.now c.loop-col.col _ _ c.requires.heads inside c.index-heads-col.is c.as_slice.ensures.value in
-    omega (arith, c.requires.room, c.loop-col.invariant.long, c.loop-col.invariant.end, c.put_piece-end.ensures.long, c.put_piece-end.ensures.end, ap length head, member_fits json rows.names values c.loop-col.col _ wide inside value)
+    omega (arith, c.requires.room, c.loop-col.invariant.long, c.loop-col.invariant.end, c.put_head-end.ensures.long, c.put_head-end.ensures.end, ap length head, member_fits json rows.names values c.loop-col.col _ wide inside value)
 
 pub loop-col-preserved : goal.loop-col-preserved
 loop-col-preserved g c =
@@ -46,7 +53,7 @@ loop-col-preserved g c =
     let more = ap (λ h. (front ++ h) ++ text) head ∙ append_assoc front _ text ∙ append_assoc (before_values json) _ _
     ∙ ap (λ l. before_values json ++ l) (sym (member_more json rows.names values c.loop-col.col _ wide inside value)) in
     subst (IsWrittenAt c.args.out.now c.put_cell-end.new.out c.args.at c.put_cell-end.result) more
-    (put_then _ _ _ _ _ _ (front ++ c.as_slice.result.now) text (put_then _ _ _ _ _ _ front _ c.loop-col.invariant c.put_piece-end.ensures) c.put_cell-end.ensures)
+    (put_then _ _ _ _ _ _ (front ++ c.as_slice.result.now) text (put_then _ _ _ _ _ _ front _ c.loop-col.invariant c.put_head-end.ensures) c.put_cell-end.ensures)
 
 pub put_byte-requires : goal.put_byte-requires
 put_byte-requires g c =
