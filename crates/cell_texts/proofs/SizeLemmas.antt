@@ -1,13 +1,11 @@
 -- Sizes of rows, value by value and column by column.
-use Rattle.std.proofs.Common.{◌≡◌, ℕ, ◌+◌, ◌^◌, ◌<◌, ◌≤◌, Bool, true, false, not, List, [], ◌∷◌, ◌++◌, Some, drop, get_or, length, map, replicate, take, refl, ap, sym, ◌∙◌, arith, length-append}
+use Rattle.std.proofs.Common.{◌≡◌, ℕ, ◌+◌, ◌^◌, ◌<◌, ◌≤◌, Bool, List, [], ◌∷◌, ◌++◌, Some, drop, get_or, length, map, replicate, take, ap, sym, ◌∙◌, arith, length-append}
 use Rattle.std.specs.Prelude.{slice_get}
-use Rattle.std.specs.List.{All, flat_map, list_any}
-use Rattle.std.proofs.lemmas.List.{get_or_default, get_or-drop, get_or-map, get_or-replicate, get_or-take, length-drop, length-map, length-replicate, length-take, take_all, take_more}
-use Rattle.std.proofs.lemmas.List.Folds.{Any-from_list_any, list_any_at}
+use Rattle.std.specs.List.{All, flat_map}
+use Rattle.std.proofs.lemmas.List.{get_or-drop, get_or-map, get_or-replicate, get_or-take, length-drop, length-map, length-replicate, length-take, take_all, take_more}
 use Rattle.std.proofs.lemmas.Option.{get_or_from_slice_get, slice_get-get_or, same_Some}
-use Rattle.cell_types.specs.Value.{CellValue, null}
-use Rattle.text_columns.specs.Search.{HasPart}
-use Rattle.reply_values.specs.Printed.{is_plain_text, needs_more}
+use Rattle.cell_types.specs.Value.{CellValue, null, text as text_cell}
+use Rattle.reply_values.specs.Printed.{printed_text, printed_value}
 use Rattle.reply_values.specs.Size.{told}
 
 -- sizes that begin with what a row takes without its values
@@ -74,15 +72,7 @@ few_wide rows first count width col within less wide row inside =
 
 -- ---- texts each byte of which stands for itself
 
--- a part of such bytes
-pub part_plain : (json : Bool) (bytes t : List ℕ) → HasPart t bytes → is_plain_text json bytes ≡ true → is_plain_text json t ≡ true
-part_plain json bytes t (place, at) plain = by (list_any (needs_more json) t) refl
-  where
-    by : (b : Bool) → list_any (needs_more json) t ≡ b → not b ≡ true
-    by false e = refl
-    by true e =
-        let found = Any-from_list_any (needs_more json) t e in
-        let there : needs_more json (get_or bytes (place + found.0) 0) ≡ true =
-        ap (needs_more json) (at.reads found.0 found.2 ∙ get_or_default t found.0 0 found.1 found.2 ∙ found.3) ∙ found.4 in
-        let no : not true ≡ true = ap not (sym (list_any_at (needs_more json) bytes (place + found.0) 0 (omega (arith, at.fits, found.2)) there)) ∙ plain in
-        cc
+-- the size of a cell whose text is as long as that
+pub plain_counted : (json : Bool) (cell : CellValue) (t : List ℕ) (old len size new : ℕ) → cell ≡ text_cell t → len ≡ length t → size ≡ told (length (printed_text json t)) → new ≡ told (old + size)
+    → new ≡ told (old + length (printed_value json cell))
+plain_counted json cell t old len size new is long size_is new_is = omega (arith, size_is, new_is, ap (λ v. length (printed_value json v)) is)

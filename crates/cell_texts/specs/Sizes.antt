@@ -19,9 +19,6 @@ pub record AreCellsCountedFrom (text : CellValue → List ℕ) (first : ℕ) (ce
 abbrev pub IsPlainCell : Bool → CellValue → Type 0
 IsPlainCell json cell = (t : List ℕ) → cell ≡ text_cell t → IsTrue (is_plain_text json t)
 
-abbrev pub ArePlainCells : Bool → List CellValue → Type 0
-ArePlainCells json cells = (i : ℕ) → i < length cells → IsPlainCell json (get_or cells i null)
-
 -- these are the sizes of the rows from one on, each of which takes `frame` bytes without its values
 abbrev pub AreRowsCounted : (CellValue → List ℕ) → List (List CellValue) → ℕ → ℕ → List ℕ → Type 0
 AreRowsCounted text rows first frame sizes =

@@ -2,26 +2,21 @@
 ghost use Rattle.std.specs.Prelude.{◌≡◌, ◌+◌, ◌<◌, ◌≤◌, ℕ, IsTrue, length, slice_index_or};
 ghost use Rattle.block_summary.specs.Types.{cells_of_kind, numbers_of};
 ghost use Rattle.block_summary.specs.declared.block.TheConstants.{BLOCK_ROWS};
-ghost use Rattle.cell_texts.specs.Sizes.{AreCellsCounted, AreCellsCountedFrom, ArePlainCells, IsPlainCell};
+ghost use Rattle.cell_texts.specs.Sizes.{AreCellsCounted, AreCellsCountedFrom, IsPlainCell};
 ghost use Rattle.cell_types.specs.Value.{null};
 ghost use Rattle.reply_values.specs.Printed.{printed_value};
+ghost use Rattle.text_columns.specs.PlainParts.{ArePlainRows};
+ghost use Rattle.text_columns.specs.Texts.{AreTextLengths};
 
 use crate::sizes::{cell_size, known_size};
 use block_summary::PackedColumn;
 use cell_types::NumberKind;
-use reply_values::is_plain;
+use reply_values::plain_size;
 use row_columns::{ColumnPart, PartCells, number_cell, text_cell};
 use text_columns::TextColumn;
 
-/// Returns true if each byte of the texts of cells stands for itself, by one look over all of them, or false if the cells are not texts.
-fn are_plain<const JSON: bool>(cells: &ColumnPart<'_>) -> bool
-    ensures { IsTrue result → ArePlainCells JSON cells.now }
-{
-    match cells.text_bytes() {
-        Some(bytes) => is_plain::<JSON>(bytes),
-        None => false,
-    }
-}
+/// How many texts are counted by their lengths alone.
+const TOGETHER: usize = 64;
 
 /// Adds to each size how many bytes a number takes, from that of the row `first` on. The numbers stand for values of `kind`.
 #[inline(always)]
@@ -60,6 +55,44 @@ fn add_texts<const JSON: bool>(
     }
 }
 
+/// Adds to each size how many bytes a text takes, from that of the row `first` on, by its length alone: each of its bytes stands for itself.
+#[inline(always)]
+fn add_lengths<const JSON: bool>(
+    texts: &TextColumn<'_>,
+    first: usize,
+    lengths: &[usize],
+    sizes: &mut [usize],
+)
+    requires long { length lengths.now ≡ length sizes.old }
+    requires lengths { AreTextLengths texts.now first lengths.now }
+    requires plain { ArePlainRows JSON texts.now first (length sizes.old) }
+    ensures { AreCellsCountedFrom (printed_value JSON) first texts.now sizes.old sizes.new }
+{
+    for i in 0..sizes.len() {
+        sizes[i] = sizes[i].saturating_add(plain_size::<JSON>(lengths[i]));
+    }
+}
+
+/// Adds to each size how many bytes a text takes, from that of the row `first` on. None is looked at if the block knows that each of their bytes stands for itself.
+#[inline(always)]
+fn add_any<const JSON: bool>(texts: &TextColumn<'_>, first: usize, sizes: &mut [usize])
+    requires { first + length sizes.old ≤ BLOCK_ROWS }
+    ensures { AreCellsCountedFrom (printed_value JSON) first texts.now sizes.old sizes.new }
+{
+    let count = sizes.len();
+    if count > TOGETHER || first + count > texts.len() || !texts.is_plain::<JSON>(first, count) {
+        add_texts::<JSON>(texts, false, first, sizes);
+        return;
+    }
+    let mut room = [0; TOGETHER];
+    let lengths = &mut room[..count];
+    if texts.lengths(first, lengths) {
+        add_lengths::<JSON>(texts, first, lengths, sizes);
+    } else {
+        add_texts::<JSON>(texts, true, first, sizes);
+    }
+}
+
 /// Adds to each size how many bytes a number takes, from that of the row `first` on.
 #[inline(never)]
 fn add_kinds<const JSON: bool>(numbers: &PackedColumn, first: usize, sizes: &mut [usize])
@@ -89,9 +122,6 @@ pub(crate) fn add_cells<const JSON: bool>(cells: &ColumnPart<'_>, sizes: &mut [u
 {
     match cells.kept() {
         PartCells::Numbers(numbers, first) => add_kinds::<JSON>(numbers, first, sizes),
-        PartCells::Texts(texts, first) if are_plain::<JSON>(cells) => {
-            add_texts::<JSON>(&texts, true, first, sizes);
-        }
-        PartCells::Texts(texts, first) => add_texts::<JSON>(&texts, false, first, sizes),
+        PartCells::Texts(texts, first) => add_any::<JSON>(&texts, first, sizes),
     }
 }

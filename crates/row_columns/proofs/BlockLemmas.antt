@@ -91,16 +91,3 @@ part_from cells part kept first len same is fits =
           ap (λ (cs : List CellValue). get_or cs row null) (sym is) ∙ part_at cells first len row (omega (arith, less, long))
           ∙ ap (λ (cs : List CellValue). get_or cs (first + row) null) (sym same);
     }
-
--- the texts of part of a column
-pub part_texts : (cells texts : List CellValue) (first len last : ℕ) (P : List ℕ → Type 0) → texts ≡ cells → last + 1 ≡ first + len
-    → ((row : ℕ) (t : List ℕ) → first ≤ row → row ≤ last → get_or texts row null ≡ text t → P t)
-    → (row : ℕ) (t : List ℕ) → get_or (map (λ n. get_or cells n null) (numbers_from first len)) row null ≡ text t → P t
-part_texts cells texts first len last P same ends have row t is = elim (cases_lt row len) [
-  | inl less ↦
-      have (first + row) t (omega arith) (omega (arith, less, ends)) (ap (λ (cs : List CellValue). get_or cs (first + row) null) same ∙ sym (part_at cells first len row less) ∙ is)
-  | inr past ↦
-      let long : length (map (λ n. get_or cells n null) (numbers_from first len)) ≤ row = omega (arith, past, length-map (numbers_from first len) (λ n. get_or cells n null), length-from first len) in
-      let none : null ≡ text t = sym (get_or_past (map (λ n. get_or cells n null) (numbers_from first len)) row null long) ∙ is in
-      let no : ⊥ = cc in absurd no
-]

@@ -1,13 +1,11 @@
 //! Rows that follow on one another in one block.
-ghost use Rattle.std.specs.Prelude.{◌≡◌, ◌+◌, ◌<◌, ◌≤◌, ℕ, List, [], IfSome, drop, length, map, slice_index_or, take};
+ghost use Rattle.std.specs.Prelude.{◌≡◌, ◌+◌, ◌<◌, ◌≤◌, ℕ, [], IfSome, drop, length, map, slice_index_or, take};
 ghost use Rattle.block_summary.specs.Ranges.{column_of};
 ghost use Rattle.block_summary.specs.declared.block.TheConstants.{BLOCK_ROWS};
-ghost use Rattle.cell_types.specs.Value.{null, text};
 ghost use Rattle.row_columns.specs.Numbers.{numbers_from};
 ghost use Rattle.row_columns.specs.Part.{ArePartOf};
 ghost use Rattle.row_columns.specs.Piece.{piece_row};
 ghost use Rattle.row_columns.specs.Store.{end_of, stored_row};
-ghost use Rattle.text_columns.specs.Search.{HasPart};
 
 use crate::columns::Columns;
 use crate::piece::Piece;
@@ -105,19 +103,6 @@ impl<'a> ColumnPart<'a> {
             Some(texts) => PartCells::Texts(texts, self.first),
             None => unreachable!(),
         }
-    }
-
-    /// Returns bytes that have the text of each cell, or `None` if the cells are not texts.
-    pub fn text_bytes(&self) -> Option<&'a [u8]>
-        ensures { IfSome result (λ bytes. (row : ℕ) (t : List ℕ)
-            → slice_index_or self.now row null ≡ text t → HasPart t bytes.now) }
-    {
-        let texts = self.cells.texts()?;
-        let end = self.first + self.len;
-        if self.len == 0 || texts.len() < end {
-            return None;
-        }
-        Some(texts.bytes_of(self.first, end - 1))
     }
 }
 

@@ -6,3 +6,4 @@ mod TextLemmas
 mod CodeLemmas
 mod ReadLemmas
 mod SearchLemmas
+mod PlainLemmas

@@ -10,7 +10,7 @@ use Rattle.text_columns.proofs.TextLemmas.{cell-at, length-text_cells}
 
 -- ---- a part of a text is a part of its bytes
 
-length-slice : (xs : List ℕ) (a b : ℕ) → a ≤ b → b ≤ length xs → length (slice_range xs a b) ≡ b - a
+pub length-slice : (xs : List ℕ) (a b : ℕ) → a ≤ b → b ≤ length xs → length (slice_range xs a b) ≡ b - a
 length-slice xs a b order within = omega (arith, length-take (b - a) (drop a xs), length-drop a xs)
 
 slice-at : (xs : List ℕ) (a b i : ℕ) → i < b - a → get_or (slice_range xs a b) i 0 ≡ get_or xs (a + i) 0

@@ -5,3 +5,4 @@ pub mod Search
 pub mod Codes
 pub mod Bounds
 pub mod Plain
+pub mod PlainParts

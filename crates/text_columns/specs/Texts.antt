@@ -1,5 +1,5 @@
 -- The texts of a column of a block: one stands after the other, and of each it is known where it ends.
-use Rattle.std.specs.Prelude.{◌≡◌, ◌⊎◌, ◌<◌, ◌≤◌, ℕ, zero, suc, Bool, true, false, List, [], ◌∷◌, IsUtf8, length, slice_index_or, slice_range}
+use Rattle.std.specs.Prelude.{◌≡◌, ◌⊎◌, ◌+◌, ◌<◌, ◌≤◌, ℕ, zero, suc, Bool, true, false, List, [], ◌∷◌, IsUtf8, length, slice_index_or, slice_range}
 use Rattle.std.specs.Str.{IsCharBoundary}
 use Rattle.cell_types.specs.Value.{CellValue, null, text}
 
@@ -23,10 +23,23 @@ texts_unless_null (is_null ∷ nulls) (t ∷ texts) = text_unless_null is_null t
 abbrev pub text_block_cells : List Bool → List ℕ → List ℕ → List CellValue
 text_block_cells nulls ends bytes = texts_unless_null nulls (texts_from 0 ends bytes)
 
+-- the lengths of the texts of the rows from one on, none of which is null
+abbrev pub AreTextLengths : List CellValue → ℕ → List ℕ → Type 0
+AreTextLengths cells first lengths = (i : ℕ) → i < length lengths → (t : List ℕ) × (slice_index_or cells (first + i) null ≡ text t) × (slice_index_or lengths i 0 ≡ length t)
+
 -- where the text of a row begins: where the one before it ends
 abbrev pub start_from : ℕ → List ℕ → ℕ → ℕ
 start_from start ends zero = start
 start_from start ends (suc row) = slice_index_or ends row 0
+
+-- no text ends before it begins
+abbrev pub DoRise : List ℕ → Type 0
+DoRise ends = (row : ℕ) → row < length ends → start_from 0 ends row ≤ slice_index_or ends row 0
+
+-- how far it ends past its beginning, for as many rows from one on as there are numbers
+pub record AreDistances (ends : List ℕ) (first : ℕ) (old new : List ℕ) : Type 0 where
+  pub long : length new ≡ length old
+  pub each : (i : ℕ) → i < length new → slice_index_or new i 0 + start_from 0 ends (first + i) ≡ slice_index_or ends (first + i) 0
 
 -- no text ends before it begins, and none past the end of `size` bytes
 abbrev pub EndsRise : List ℕ → ℕ → Type 0

@@ -7,6 +7,7 @@ use crate::bounds::{TextBounds, bounds_of};
 use crate::codes::{TextCodes, codes_of};
 use crate::column::TextColumn;
 use crate::places::Places;
+use crate::plain::PlainParts;
 use std::alloc::{AllocError, Global};
 use std::marker::Model;
 
@@ -30,6 +31,7 @@ fn column_of(texts: &PlainTexts) -> TextColumn<'_>
         ends: &texts.ends,
         nulls: texts.nulls.as_slice(),
         codes: None,
+        plain: None,
     }
 }
 
@@ -44,6 +46,7 @@ pub struct TextBlock {
     /// The codes of the texts, if there are few different ones.
     pub(crate) codes: Option<TextCodes>,
     bounds: TextBounds,
+    plain: PlainParts,
 }
 
 impl Model for TextBlock {
@@ -55,6 +58,7 @@ impl Model for TextBlock {
     ghost use Rattle.text_columns.specs.Places.{place_list};
     ghost use Rattle.text_columns.specs.Bounds.{AreTextBounds};
     ghost use Rattle.text_columns.specs.Codes.{AreCodedTexts};
+    ghost use Rattle.text_columns.specs.PlainParts.{HavePlainParts};
     ghost use Rattle.text_columns.specs.Texts.{text_block_cells};
 
     ghost view = { λ b. text_block_cells b.nulls.items (place_list b.ends) (string_bytes b.bytes) };
@@ -62,7 +66,9 @@ impl Model for TextBlock {
     ghost invariant = { λ b. AreCodedTexts b.nulls.items (place_list b.ends)
         (string_bytes b.bytes) b.codes
         × AreTextBounds (text_block_cells b.nulls.items (place_list b.ends) (string_bytes b.bytes))
-        b.bounds };
+        b.bounds
+        × HavePlainParts (text_block_cells b.nulls.items (place_list b.ends) (string_bytes b.bytes))
+        b.plain };
 }
 
 impl TextBlock {
@@ -76,6 +82,7 @@ impl TextBlock {
             ends: &self.ends,
             nulls: self.nulls.as_slice(),
             codes: self.codes.as_ref(),
+            plain: Some(&self.plain),
         }
     }
 
@@ -94,12 +101,14 @@ impl TextBlock {
         let column = column_of(&texts);
         let bounds = bounds_of(&column);
         let codes = codes_of(alloc, &column)?;
+        let plain = PlainParts::of(&column);
         Ok(TextBlock {
             bytes: texts.bytes,
             ends: texts.ends,
             nulls: texts.nulls,
             codes,
             bounds,
+            plain,
         })
     }
 }

@@ -12,6 +12,9 @@ use std::alloc::{AllocError, Global};
 use std::marker::Model;
 use std::mem::replace;
 
+/// How many bytes the texts of a block have at most if they are copied.
+const COPIED: usize = 0x10_0000;
+
 /// The texts of a column that are read one after another, until they fill a block.
 #[derive(Drop)]
 pub struct TextBuffer {
@@ -43,14 +46,23 @@ fn is_null(empty_is_null: bool, len: usize) -> bool
     empty_is_null && len == 0
 }
 
-/// Returns the first `len` bytes as a text, without a copy, and frees the memory of the others. They are known to be UTF-8.
-fn text_of(mut bytes: Vec<u8>, len: usize) -> String
-    requires { IsUtf8 (take len bytes.items) }
-    ensures { string_bytes result ≡ take len bytes.items }
+/// Returns the first `len` bytes as a text, which takes as much memory as it has bytes. They are known to be UTF-8. A short text is a copy, so that the memory
+/// of `bytes` never moves and leaves no gaps between blocks; a long one takes that memory over.
+fn text_of(alloc: Global, bytes: &mut Vec<u8>, len: usize) -> Result<String, AllocError>
+    requires within { len ≤ length bytes.old.items }
+    requires utf8 { IsUtf8 (take len bytes.old.items) }
+    ensures text { IfOk result (λ text. string_bytes text ≡ take len bytes.old.items) }
+    ensures err { OnErr result (bytes.new ≡ bytes.old) }
 {
-    bytes.truncate(len);
-    bytes.shrink_to_fit();
-    unsafe { String::from_utf8_unchecked(bytes) }
+    if len <= COPIED {
+        let copy = Vec::from_slice(alloc, &bytes.as_slice()[..len])?;
+        return Ok(unsafe { String::from_utf8_unchecked(copy) });
+    }
+    // The next texts are likely to be as long as these, so their memory rarely has to grow.
+    let mut taken = replace(bytes, Vec::with_capacity(alloc, len)?);
+    taken.truncate(len);
+    taken.shrink_to_fit();
+    Ok(unsafe { String::from_utf8_unchecked(taken) })
 }
 
 /// Returns the marks of nulls that are kept: none, if no row is null.
@@ -148,9 +160,7 @@ impl TextBuffer {
     {
         let ends = places_of(alloc, &self.ends.as_slice()[..self.len], self.at)?;
         let nulls = marks_of(alloc, &self.nulls.as_slice()[..self.len])?;
-        // The next texts are likely to be as long as these, so their memory rarely has to grow.
-        let next = Vec::with_capacity(alloc, self.at)?;
-        let bytes = text_of(replace(&mut self.bytes, next), self.at);
+        let bytes = text_of(alloc, &mut self.bytes, self.at)?;
         self.at = 0;
         self.len = 0;
         TextBlock::of_texts(alloc, PlainTexts { bytes, ends, nulls })

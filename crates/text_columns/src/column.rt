@@ -1,11 +1,13 @@
 //! The texts of a column of a block, as they are lent.
-ghost use Rattle.std.specs.Prelude.{◌≡◌, ◌<◌, ◌≤◌, false, IfSome, MatchOption, length, slice_index_or};
+ghost use Rattle.std.specs.Prelude.{◌≡◌, ◌+◌, ◌<◌, ◌≤◌, false, IfSome, IsTrue, MatchOption, length, slice_index_or};
 ghost use Rattle.cell_types.specs.Value.{null, text as text_cell, value_view};
 ghost use Rattle.text_columns.specs.Codes.{AreCodes};
 ghost use Rattle.text_columns.specs.Search.{HaveTexts};
+ghost use Rattle.text_columns.specs.Texts.{AreTextLengths};
 
 use crate::codes::TextCodes;
-use crate::places::{Places, count_of, place_at, start_at};
+use crate::places::{Places, count_of, lengths_of, place_at, start_at};
+use crate::plain::PlainParts;
 use cell_types::Value;
 use std::borrow::CowStr;
 use std::marker::Model;
@@ -20,6 +22,8 @@ pub struct TextColumn<'t> {
     pub(crate) nulls: &'t [bool],
     /// The codes of the texts, if there are few different ones.
     pub(crate) codes: Option<&'t TextCodes>,
+    /// Which parts are plain, if that is known.
+    pub(crate) plain: Option<&'t PlainParts>,
 }
 
 impl<'t> Model for TextColumn<'t> {
@@ -30,13 +34,16 @@ impl<'t> Model for TextColumn<'t> {
 
     ghost use Rattle.text_columns.specs.Places.{place_list};
     ghost use Rattle.text_columns.specs.Codes.{AreCodedTexts};
+    ghost use Rattle.text_columns.specs.PlainParts.{HaveKnownParts};
     ghost use Rattle.text_columns.specs.Texts.{text_block_cells};
     ghost use Rattle.std.specs.Option.{option_copied};
 
     ghost view = { λ c. text_block_cells c.nulls.now (place_list c.ends.now) c.bytes.now };
 
     ghost invariant = { λ c. AreCodedTexts c.nulls.now (place_list c.ends.now) c.bytes.now
-        (option_copied c.codes) };
+        (option_copied c.codes)
+        × HaveKnownParts (text_block_cells c.nulls.now (place_list c.ends.now) c.bytes.now)
+        (option_copied c.plain) };
 }
 
 /// Returns true if a row is null; none is, past the end of the marks.
@@ -82,9 +89,19 @@ impl<'t> TextColumn<'t> {
         Some(&self.bytes[start..end])
     }
 
+    /// Writes how many bytes the text of each row has, from `first` on, and returns true, or returns false if a row of the block is null, or the block is long.
+    #[inline(always)]
+    pub fn lengths(&self, first: usize, out: &mut [usize]) -> bool
+        requires { first + length out.old ≤ length self.now }
+        ensures long { length out.new ≡ length out.old }
+        ensures each { IsTrue result → AreTextLengths self.now first out.new }
+    {
+        self.nulls.is_empty() && lengths_of(self.ends, first, out)
+    }
+
     /// Returns bytes that have the texts of the rows from `first` to `last`.
     #[inline(always)]
-    pub fn bytes_of(&self, first: usize, last: usize) -> &'t [u8]
+    pub(crate) fn bytes_of(&self, first: usize, last: usize) -> &'t [u8]
         requires order { first ≤ last }
         requires within { last < length self.now }
         ensures { HaveTexts result.now self.now first last }

@@ -10,6 +10,7 @@ mod codes;
 mod column;
 mod content;
 mod places;
+mod plain;
 mod room;
 mod search;
 

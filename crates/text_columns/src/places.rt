@@ -1,7 +1,7 @@
 //! The places where the texts of a block end, in as few bytes as the last of them needs.
-ghost use Rattle.std.specs.Prelude.{◌≡◌, ◌<◌, ◌≤◌, ℕ, IfOk, length, slice_index_or};
+ghost use Rattle.std.specs.Prelude.{◌≡◌, ◌+◌, ◌<◌, ◌≤◌, ℕ, IfOk, IsTrue, length, slice_index_or};
 ghost use Rattle.text_columns.specs.Places.{place_list};
-ghost use Rattle.text_columns.specs.Texts.{start_from};
+ghost use Rattle.text_columns.specs.Texts.{start_from, AreDistances, DoRise};
 
 use std::alloc::{AllocError, Global};
 
@@ -49,6 +49,50 @@ pub fn start_at(places: &Places, row: usize) -> usize
     } else {
         place_at(places, row - 1)
     }
+}
+
+/// Writes how far each place is past the one before it, from the number `first` on. The places are in two bytes each.
+fn write_twos_apart(ends: &[u16], first: usize, out: &mut [usize])
+    requires within { first + length out.old ≤ length ends.now }
+    requires rise { DoRise ends.now }
+    ensures { AreDistances ends.now first out.old out.new }
+{
+    let mut last = if first == 0 { 0 } else { ends[first - 1] };
+    for i in 0..out.len() {
+        let end = ends[first + i];
+        out[i] = usize::from(end - last);
+        last = end;
+    }
+}
+
+/// Writes how far each place is past the one before it, from the number `first` on. The places are in four bytes each.
+fn write_fours_apart(ends: &[u32], first: usize, out: &mut [usize])
+    requires within { first + length out.old ≤ length ends.now }
+    requires rise { DoRise ends.now }
+    ensures { AreDistances ends.now first out.old out.new }
+{
+    let mut last = if first == 0 { 0 } else { ends[first - 1] };
+    for i in 0..out.len() {
+        let end = ends[first + i];
+        out[i] = (end - last) as usize;
+        last = end;
+    }
+}
+
+/// Writes how far each place is past the one before it, from the number `first` on, and returns true, or returns false if a place has eight bytes.
+#[inline(always)]
+pub fn lengths_of(ends: &Places, first: usize, out: &mut [usize]) -> bool
+    requires within { first + length out.old ≤ length (place_list ends.now) }
+    requires rise { DoRise (place_list ends.now) }
+    ensures long { length out.new ≡ length out.old }
+    ensures each { IsTrue result → AreDistances (place_list ends.now) first out.old out.new }
+{
+    match ends {
+        Places::Twos(ends) => write_twos_apart(ends, first, out),
+        Places::Fours(ends) => write_fours_apart(ends, first, out),
+        Places::Eights(_) => return false,
+    }
+    true
 }
 
 /// Writes places in two bytes each.

@@ -19,7 +19,7 @@ slice_bounds-result-count c =
     let b = c.self.inside in
     let in_bytes =
     rows-within b.nulls.now (place_list b.ends.now) b.bytes.now c.args.self.now c.args.first c.args.last c.start_at-start.result c.place_at-end.result
-    c.self.invariant.texts.rise c.self.view_is c.requires.order c.requires.within c.start_at-start.ensures c.place_at-end.ensures in
+    c.self.invariant.0.texts.rise c.self.view_is c.requires.order c.requires.within c.start_at-start.ensures c.place_at-end.ensures in
     omega (arith, in_bytes.0, in_bytes.1, ap length c.as_bytes.ensures.value)
 
 pub slice_bounds-result-start : goal.slice_bounds-result-start
@@ -27,7 +27,7 @@ slice_bounds-result-start c =
     let b = c.self.inside in
     let in_bytes =
     rows-within b.nulls.now (place_list b.ends.now) b.bytes.now c.args.self.now c.args.first c.args.last c.start_at-start.result c.place_at-end.result
-    c.self.invariant.texts.rise c.self.view_is c.requires.order c.requires.within c.start_at-start.ensures c.place_at-end.ensures in
+    c.self.invariant.0.texts.rise c.self.view_is c.requires.order c.requires.within c.start_at-start.ensures c.place_at-end.ensures in
     omega (arith, in_bytes.0, in_bytes.1, ap length c.as_bytes.ensures.value)
 
 pub slice_bounds-result-end : goal.slice_bounds-result-end
@@ -35,7 +35,7 @@ slice_bounds-result-end c =
     let b = c.self.inside in
     let in_bytes =
     rows-within b.nulls.now (place_list b.ends.now) b.bytes.now c.args.self.now c.args.first c.args.last c.start_at-start.result c.place_at-end.result
-    c.self.invariant.texts.rise c.self.view_is c.requires.order c.requires.within c.start_at-start.ensures c.place_at-end.ensures in
+    c.self.invariant.0.texts.rise c.self.view_is c.requires.order c.requires.within c.start_at-start.ensures c.place_at-end.ensures in
     omega (arith, in_bytes.0, in_bytes.1, ap length c.as_bytes.ensures.value)
 
 pub returns : goal.returns
@@ -44,4 +44,4 @@ returns c =
     let ends = place_list b.ends.now in
     let h = within-ends b.nulls.now ends b.bytes.now c.args.self.now c.args.last c.self.view_is c.requires.within in
     rw (c.start_at-start.ensures, c.place_at-end.ensures, c.as_bytes.ensures.value)
-    (texts-in b.nulls.now ends b.bytes.now c.args.self.now c.args.first c.args.last c.self.invariant.texts.rise c.self.view_is h)
+    (texts-in b.nulls.now ends b.bytes.now c.args.self.now c.args.first c.args.last c.self.invariant.0.texts.rise c.self.view_is h)

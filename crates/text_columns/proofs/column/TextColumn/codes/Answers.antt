@@ -6,4 +6,4 @@ use Rattle.text_columns.proofs.column.TextColumn.codes.Goals as goal
 pub returns : goal.returns
 returns c =
     let b = c.self.inside in
-    lent-codes b.codes (text_block_cells b.nulls.now (place_list b.ends.now) b.bytes.now) c.args.self.now c.self.view_is c.self.invariant.codes
+    lent-codes b.codes (text_block_cells b.nulls.now (place_list b.ends.now) b.bytes.now) c.args.self.now c.self.view_is c.self.invariant.0.codes

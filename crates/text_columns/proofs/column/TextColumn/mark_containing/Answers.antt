@@ -14,7 +14,7 @@ mark_hits-requires-clause-long c =
 pub mark_hits-requires-clause-rise : goal.mark_hits-requires-clause-rise
 mark_hits-requires-clause-rise c =
     let b = c.self.inside in
-    subst (λ bytes. EndsRise (place_list b.ends.now) (length bytes)) (sym c.as_bytes.ensures.value) c.self.invariant.texts.rise
+    subst (λ bytes. EndsRise (place_list b.ends.now) (length bytes)) (sym c.as_bytes.ensures.value) c.self.invariant.0.texts.rise
 
 pub returns-then-is_empty : goal.returns-then-is_empty
 returns-then-is_empty c =

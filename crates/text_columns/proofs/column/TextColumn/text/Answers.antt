@@ -23,19 +23,19 @@ pub range-requires-clause-start_le_end : goal.range-requires-clause-start_le_end
 range-requires-clause-start_le_end c =
     let b = c.self.inside in
     let lt = within-ends b.nulls.now (place_list b.ends.now) b.bytes.now c.args.self.now c.args.row c.self.view_is c.requires in
-    omega (arith, c.start_at-start.ensures, c.place_at-end.ensures, (c.self.invariant.texts.rise c.args.row lt).0)
+    omega (arith, c.start_at-start.ensures, c.place_at-end.ensures, (c.self.invariant.0.texts.rise c.args.row lt).0)
 
 pub range-requires-clause-start_boundary : goal.range-requires-clause-start_boundary
 range-requires-clause-start_boundary c =
     let b = c.self.inside in
     let lt = within-ends b.nulls.now (place_list b.ends.now) b.bytes.now c.args.self.now c.args.row c.self.view_is c.requires in
-    λ _. subst (IsCharBoundary b.bytes.now) (sym c.start_at-start.ensures) (start-boundary b.nulls.now (place_list b.ends.now) b.bytes.now c.args.row c.self.invariant.texts lt)
+    λ _. subst (IsCharBoundary b.bytes.now) (sym c.start_at-start.ensures) (start-boundary b.nulls.now (place_list b.ends.now) b.bytes.now c.args.row c.self.invariant.0.texts lt)
 
 pub range-requires-clause-end_boundary : goal.range-requires-clause-end_boundary
 range-requires-clause-end_boundary c =
     let b = c.self.inside in
     let lt = within-ends b.nulls.now (place_list b.ends.now) b.bytes.now c.args.self.now c.args.row c.self.view_is c.requires in
-    subst (IsCharBoundary b.bytes.now) (sym c.place_at-end.ensures) (c.self.invariant.texts.boundaries c.args.row lt)
+    subst (IsCharBoundary b.bytes.now) (sym c.place_at-end.ensures) (c.self.invariant.0.texts.boundaries c.args.row lt)
 
 pub returns : goal.returns
 returns c =
