@@ -6,8 +6,10 @@ mod cells;
 mod fault;
 mod file_reading;
 mod header;
+mod laws;
 mod loader;
 mod parts;
 
 pub use fault::{BadCell, FileFault};
 pub use file_reading::{FileCells, FileReading, FileStep};
+pub use laws::worked_rows;

@@ -214,7 +214,7 @@ impl<'a> Folder<'a> {
         self.load.is_some()
     }
 
-    /// Takes one step of the load that is under way, if there is one: it reads half a MiB of a file, or 512 rows.
+    /// Takes one step of the load that is under way, if there is one: opens a file, reads a piece or a window of it, or reads the keys of a block of rows.
     pub fn work(&mut self, rt: &HostRuntime, hub: &mut Hub, log: &mut Log<'_>)
         ensures { MayReload hub.old hub.new }
     {

@@ -33,7 +33,7 @@ pub fn keys_of_tables()
     key_index::keys_find_rows();
 }
 
-/// States headers, rows, keys and files with what is found in them, worked out by hand.
+/// States keys and files with what is found in them, worked out by hand.
 pub fn worked_tables()
     ensures { WorkedTables }
 {}

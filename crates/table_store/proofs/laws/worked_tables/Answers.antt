@@ -7,13 +7,6 @@ use Rattle.table_store.proofs.laws.worked_tables.Goals as goal
 pub returns : goal.returns
 unfolding integer_of value_eq normal_text words
 returns c = record {
-  names = refl;
-  titles = refl;
-  others = refl;
-  widths = refl;
-  rows = refl;
-  by_rows = refl;
-  by_columns = refl;
   cell_before_key = λ bytes limit small is. (bytes, (refl, small), record { header = _; records = _; is = is; header_matches = refl; first = refl });
   null_before_twice = λ bytes limit small is. (
     bytes,
