@@ -1,24 +1,19 @@
-//! The files of a folder that are converted, and the names that they get.
+//! The names of a folder, and those that its files get if they are converted.
 use std::alloc::{AllocError, Global};
 use std::fs;
 use std::io::{self, ErrorKind};
 
-/// The ends of the names of files that are converted.
-const ENDS: [&str; 4] = [".csv", ".tsv", ".txt", ".tab"];
+/// The ends of the names of files that are converted, after their last points.
+const ENDS: [&str; 4] = ["csv", "tsv", "txt", "tab"];
 
 /// The most characters of a name before `.csv`.
 const MOST_NAME: usize = 120;
 
 /// Returns a name without its end, if it is that of a file that is converted.
 fn stem_of(name: &str) -> Option<&str> {
-    for end in ENDS {
-        if let Some((stem, last)) = name.rsplit_once('.')
-            && end
-                .as_bytes()
-                .get(1..)
-                .unwrap_or(b"")
-                .eq_ignore_ascii_case(last.as_bytes())
-        {
+    let (stem, end) = name.rsplit_once('.')?;
+    for other in ENDS {
+        if end.eq_ignore_ascii_case(other) {
             return Some(stem);
         }
     }
@@ -26,7 +21,7 @@ fn stem_of(name: &str) -> Option<&str> {
 }
 
 /// Returns the name of a table without `.csv`.
-pub fn table_of(name: &str) -> &str {
+pub(crate) fn table_of(name: &str) -> &str {
     match name.strip_suffix(".csv") {
         Some(table) => table,
         None => name,
@@ -69,35 +64,43 @@ fn is_taken(names: &[(String, String)], name: &str) -> bool {
     names.iter().any(|pair| pair.1.as_str() == name)
 }
 
-/// Returns the files of a folder that are converted, in the order of their names, each with the name that it gets.
-pub fn tables_in(rt: &HostRuntime, folder: &str) -> io::Result<Vec<(String, String)>> {
-    let mut found = Vec::new(rt.alloc());
+/// Returns the names of a folder, in the order of their bytes. A name that is not UTF-8 is passed.
+pub fn names_in(rt: &HostRuntime, folder: &str) -> io::Result<Vec<String>> {
+    let mut names = Vec::new(rt.alloc());
     let mut end = Ok(());
     for entry in fs::read_dir(rt, folder)? {
         let pushed = match entry {
-            Ok(entry) => push_name(rt.alloc(), &mut found, entry.file_name()),
+            Ok(entry) => push_name(&mut names, entry.file_name()),
             Err(error) => match error.kind() {
                 ErrorKind::InvalidFilename => Ok(()),
                 _ => Err(error),
             },
         };
+        // the first fault counts; the folder is read to its end
         end = end.and(pushed);
     }
     end?;
-    found.as_mut_slice().sort_unstable();
-    let mut names: Vec<(String, String)> = Vec::new(rt.alloc());
-    for file in found {
-        let stem = stem_of(file.as_str()).unwrap_or("");
-        let name = name_for(rt.alloc(), stem, names.as_slice())?;
-        names.push((file, name)).or(Err(AllocError))?;
-    }
+    names.as_mut_slice().sort_unstable();
     Ok(names)
 }
 
-/// Adds a name, if it is that of a file that is converted.
-fn push_name(alloc: Global, found: &mut Vec<String>, name: &str) -> io::Result<()> {
-    if stem_of(name).is_some() && !name.starts_with('.') {
-        found.push(String::from_str(alloc, name)?)?;
-    }
+/// Adds a name.
+fn push_name(names: &mut Vec<String>, name: &str) -> io::Result<()> {
+    let name = String::from_str(*names.allocator(), name)?;
+    names.push(name)?;
     Ok(())
+}
+
+/// Returns the files of a folder that are converted, in the order of their names, each with the name that it gets.
+pub(crate) fn tables_in(rt: &HostRuntime, folder: &str) -> io::Result<Vec<(String, String)>> {
+    let mut names: Vec<(String, String)> = Vec::new(rt.alloc());
+    for file in names_in(rt, folder)? {
+        if let Some(stem) = stem_of(file.as_str())
+            && !file.starts_with('.')
+        {
+            let name = name_for(rt.alloc(), stem, names.as_slice())?;
+            names.push((file, name)).or(Err(AllocError))?;
+        }
+    }
+    Ok(names)
 }

@@ -1,15 +1,15 @@
 //! Metadata with the tables and the columns that it does not have yet.
+use crate::splice::{Items, Spliced, member_at};
 use cell_types::Column;
 use csvw_meta::Schema;
-use json_splice::{Splice, items_at, member_at, spliced};
 use schema_inference::{column_json, next_name, table_json};
 use std::alloc::{AllocError, Global};
 use std::mem::replace;
 
-/// The spaces before a table of a group, and before a column of a schema.
-const TABLE_INDENT: usize = 4;
+/// What is before a table of a group, and before a column of a schema.
+const TABLE_BREAK: &[u8] = b"\n    ";
 
-const COLUMN_INDENT: usize = 10;
+const COLUMN_BREAK: &[u8] = b"\n          ";
 
 /// What is put before and after a table, so that it is one of a group.
 const BEFORE_GROUP: &[u8] = b"{\"@context\": \"http://www.w3.org/ns/csvw\", \"tables\": [\n";
@@ -33,36 +33,6 @@ fn is_called(column: &Column, other: &Column) -> bool {
     column.name.as_str() == header || column.titles.iter().any(|title| title.as_str() == header)
 }
 
-/// Appends a line break and spaces.
-fn push_break(text: &mut Vec<u8>, indent: usize) -> Result<(), AllocError> {
-    text.push(b'\n')?;
-    for _space in 0..indent {
-        text.push(b' ')?;
-    }
-    Ok(())
-}
-
-/// Returns a text as an item of an array, with spaces after each line break, before the first of the items or after another.
-fn item_of(alloc: Global, text: &[u8], indent: usize, first: bool) -> Result<Vec<u8>, AllocError> {
-    let mut made = Vec::new(alloc);
-    if !first {
-        made.push(b',')?;
-        push_break(&mut made, indent)?;
-    }
-    for byte in text {
-        if *byte == b'\n' {
-            push_break(&mut made, indent)?;
-        } else {
-            made.push(*byte)?;
-        }
-    }
-    if first {
-        made.push(b',')?;
-        push_break(&mut made, indent)?;
-    }
-    Ok(made)
-}
-
 /// Gives a drafted column another name if a column of a schema has its name, which is its header then.
 fn rename(alloc: Global, schema: &Schema, column: &mut Column) -> Result<(), AllocError> {
     let name = next_name(alloc, schema.columns.as_slice(), column.name.as_str())?;
@@ -76,77 +46,60 @@ fn rename(alloc: Global, schema: &Schema, column: &mut Column) -> Result<(), All
     Ok(())
 }
 
-/// Adds a drafted column before the column of an index, or after all columns, by the offsets of these.
-fn add_column(
-    alloc: Global,
-    items: &[(usize, usize)],
-    next: usize,
-    column: &Column,
-    splices: &mut Vec<Splice>,
-) -> Result<(), AllocError> {
-    let made = column_json(alloc, column)?;
-    let before = match next.checked_sub(1) {
-        Some(last) => items.get(last),
-        None => None,
-    };
-    let at = match before {
-        Some((_, end)) => *end,
-        None => match items.first() {
-            Some((start, _)) => *start,
-            None => return Ok(()),
-        },
-    };
-    let text = item_of(alloc, made.as_slice(), COLUMN_INDENT, before.is_none())?;
-    splices.push(Splice { at, text }).or(Err(AllocError))
+/// Adds a drafted column after the one that ends at an offset, or else before the first of those that are there.
+fn add_column(out: &mut Spliced<'_>, columns: usize, after: Option<usize>, column: &Column) {
+    let made = column_json(out.alloc, column);
+    if let Some(end) = after {
+        out.copy_to(end);
+        out.push(b",");
+        out.push(COLUMN_BREAK);
+        out.push_made(made, COLUMN_BREAK);
+    } else if let Some((start, _)) = Items::of(out.json, columns).next_item() {
+        out.copy_to(start);
+        out.push_made(made, COLUMN_BREAK);
+        out.push(b",");
+        out.push(COLUMN_BREAK);
+    }
 }
 
-/// Adds the columns of a drafted schema that the schema of a file does not have, if the header of the file has them.
-fn add_columns(
-    alloc: Global,
-    json: &[u8],
-    table: usize,
-    pair: (&Schema, &mut Schema),
-    splices: &mut Vec<Splice>,
-) -> Result<(), AllocError> {
-    let (schema, drafted) = pair;
-    let Some(inner) = member_at(alloc, json, table, b"\"tableSchema\"")? else {
-        return Ok(());
+/// Returns the offset of the columns of the table that begins at an offset.
+fn columns_at(json: &[u8], table: usize) -> Option<usize> {
+    let schema = member_at(json, table, b"\"tableSchema\"")?;
+    member_at(json, schema, b"\"columns\"")
+}
+
+/// Adds the columns of a drafted schema that the schema of a table does not have, if the header of the file has them.
+fn add_columns(out: &mut Spliced<'_>, table: usize, schema: &Schema, drafted: &mut Schema) {
+    let Some(columns) = columns_at(out.json, table) else {
+        return;
     };
-    let Some(columns) = member_at(alloc, json, inner, b"\"columns\"")? else {
-        return Ok(());
-    };
-    let items = items_at(alloc, json, columns)?;
+    let mut items = Items::of(out.json, columns);
+    let mut after = None;
     let mut next: usize = 0;
     for column in &mut drafted.columns {
         let mut others = schema.columns.iter().enumerate().skip(next);
         match others.find(|(_, other)| is_called(other, column)) {
-            Some((place, _)) => next = place.saturating_add(1),
+            Some((place, _)) => {
+                for _passed in next..=place {
+                    after = items.next_item().map(|(_, end)| end);
+                }
+                next = place.saturating_add(1);
+            }
             None => {
-                rename(alloc, schema, column)?;
-                add_column(alloc, items.as_slice(), next, column, splices)?;
+                out.is_short |= rename(out.alloc, schema, column).is_err();
+                add_column(out, columns, after, column);
             }
         }
     }
-    Ok(())
 }
 
-/// Adds the columns that the tables of metadata do not have yet, by the offsets at which these begin.
-fn add_to_tables(
-    alloc: Global,
-    json: &[u8],
-    tables: &[(usize, usize)],
-    pair: (&[Schema], &mut [Schema]),
-    splices: &mut Vec<Splice>,
-) -> Result<(), AllocError> {
-    let (schemas, drafted) = pair;
-    for (schema, (table, _)) in schemas.iter().zip(tables) {
-        for draft in &mut *drafted {
-            if draft.url == schema.url {
-                add_columns(alloc, json, *table, (schema, draft), splices)?;
-            }
+/// Adds the columns that the table which begins at an offset does not have yet.
+fn add_to_table(out: &mut Spliced<'_>, table: usize, schema: &Schema, drafted: &mut [Schema]) {
+    for draft in drafted {
+        if draft.url == schema.url {
+            add_columns(out, table, schema, draft);
         }
     }
-    Ok(())
 }
 
 /// Returns true if no schema is of the file of a drafted one.
@@ -155,32 +108,46 @@ fn lacks(schemas: &[Schema], draft: &Schema) -> bool {
 }
 
 /// Adds the tables that the metadata does not have yet at an offset.
-fn add_tables(
-    alloc: Global,
-    at: usize,
-    schemas: &[Schema],
-    drafted: &[Schema],
-    splices: &mut Vec<Splice>,
-) -> Result<(), AllocError> {
+fn add_tables(out: &mut Spliced<'_>, at: usize, schemas: &[Schema], drafted: &[Schema]) {
+    out.copy_to(at);
     for draft in drafted {
         if lacks(schemas, draft) {
-            let made = table_json(alloc, draft)?;
-            let text = item_of(alloc, made.as_slice(), TABLE_INDENT, false)?;
-            splices.push(Splice { at, text }).or(Err(AllocError))?;
+            out.push(b",");
+            out.push(TABLE_BREAK);
+            out.push_made(table_json(out.alloc, draft), TABLE_BREAK);
         }
     }
-    Ok(())
 }
 
-/// Adds a text at an offset.
-fn add_text(
-    alloc: Global,
-    at: usize,
-    text: &[u8],
-    splices: &mut Vec<Splice>,
-) -> Result<(), AllocError> {
-    let text = Vec::from_slice(alloc, text)?;
-    splices.push(Splice { at, text }).or(Err(AllocError))
+/// Adds what the metadata of a group, whose tables begin at an offset, does not have yet.
+fn add_to_group(out: &mut Spliced<'_>, tables: usize, schemas: &[Schema], drafted: &mut [Schema]) {
+    let mut items = Items::of(out.json, tables);
+    let mut last = None;
+    for schema in schemas {
+        if let Some((start, end)) = items.next_item() {
+            add_to_table(out, start, schema, &mut *drafted);
+            last = Some(end);
+        }
+    }
+    if let Some(end) = last {
+        add_tables(out, end, schemas, drafted);
+    }
+}
+
+/// Adds what the metadata of one table, which begins at an offset, does not have yet. If that is another table, it becomes that of a group.
+fn add_to_one(out: &mut Spliced<'_>, open: usize, schemas: &[Schema], drafted: &mut [Schema]) {
+    let is_group = drafted.iter().any(|draft| lacks(schemas, draft));
+    if is_group {
+        out.copy_to(open);
+        out.push(BEFORE_GROUP);
+    }
+    if let Some(schema) = schemas.first() {
+        add_to_table(out, open, schema, &mut *drafted);
+    }
+    if is_group {
+        add_tables(out, end_of(out.json), schemas, drafted);
+        out.push(AFTER_GROUP);
+    }
 }
 
 /// Returns metadata that is JSON and says the schemas, with the tables and columns of the drafted ones that it does not have yet: all else of it stays. Metadata of
@@ -191,35 +158,11 @@ pub fn added_text(
     schemas: &[Schema],
     drafted: &mut [Schema],
 ) -> Result<Vec<u8>, AllocError> {
-    let mut splices = Vec::new(alloc);
+    let mut out = Spliced::of(alloc, json);
     let open = json.iter().position(|byte| *byte == b'{').unwrap_or(0);
-    match member_at(alloc, json, open, b"\"tables\"")? {
-        Some(tables) => {
-            let items = items_at(alloc, json, tables)?;
-            add_to_tables(
-                alloc,
-                json,
-                items.as_slice(),
-                (schemas, &mut *drafted),
-                &mut splices,
-            )?;
-            if let Some((_, end)) = items.last() {
-                add_tables(alloc, *end, schemas, drafted, &mut splices)?;
-            }
-        }
-        None => {
-            let is_group = drafted.iter().any(|draft| lacks(schemas, draft));
-            if is_group {
-                add_text(alloc, open, BEFORE_GROUP, &mut splices)?;
-            }
-            let whole = [(open, open)];
-            add_to_tables(alloc, json, &whole, (schemas, &mut *drafted), &mut splices)?;
-            if is_group {
-                let end = end_of(json);
-                add_tables(alloc, end, schemas, drafted, &mut splices)?;
-                add_text(alloc, end, AFTER_GROUP, &mut splices)?;
-            }
-        }
+    match member_at(json, open, b"\"tables\"") {
+        Some(tables) => add_to_group(&mut out, tables, schemas, drafted),
+        None => add_to_one(&mut out, open, schemas, drafted),
     }
-    spliced(alloc, json, splices.as_slice())
+    out.finish()
 }

@@ -2,7 +2,6 @@
 use crate::draft::draft_folder;
 use crate::explain::tell_folder;
 use crate::status::{DEVICE, DONE, MEMORY, USAGE, status_of};
-use crate::told::status_after;
 use cli_args::{ArgsFault, line_of, system_words};
 use convert_folders::convert_folder;
 use draft_args::{DraftCommand, USAGE_LINE, read_words};
@@ -46,24 +45,27 @@ fn end_of(rt: &HostRuntime, folder: &str, end: io::Result<u8>) -> u8 {
     }
 }
 
+/// Prints what the words ask `clap` to show, and returns the exit status.
+fn show_text(rt: &HostRuntime, text: &clap::Error) -> io::Result<u8> {
+    text.print(rt)?;
+    Ok(DONE)
+}
+
 /// Does what the words ask for, or reports why there is nothing to do. If someone looks on, it reports long work.
 fn words_status(rt: &HostRuntime, words: Result<DraftCommand<'_>, ArgsFault>) -> u8 {
-    match words {
-        Ok(DraftCommand::Draft(asks)) => {
-            let end = draft_folder(rt, &asks, rt.stderr().is_terminal());
-            end_of(rt, asks.folder, end)
-        }
-        Ok(DraftCommand::Show { folder }) => end_of(rt, folder, Ok(tell_folder(rt, folder, false))),
-        Ok(DraftCommand::Explain { folder }) => end_of(
-            rt,
-            folder,
-            Ok(tell_folder(rt, folder, true)),
+    let (folder, end) = match words {
+        Ok(DraftCommand::Draft(asks)) => (
+            asks.folder,
+            draft_folder(rt, &asks, rt.stderr().is_terminal()),
         ),
-        Ok(DraftCommand::Convert(asks)) => end_of(rt, asks.folder, convert_folder(rt, &asks)),
-        Err(ArgsFault::Shows(text)) => status_after(text.print(rt), DONE),
-        Err(ArgsFault::Usage) => usage_status(rt),
-        Err(ArgsFault::NoMemory) => memory_status(rt),
-    }
+        Ok(DraftCommand::Show { folder }) => (folder, tell_folder(rt, folder, false)),
+        Ok(DraftCommand::Explain { folder }) => (folder, tell_folder(rt, folder, true)),
+        Ok(DraftCommand::Convert(asks)) => (asks.folder, convert_folder(rt, &asks)),
+        Err(ArgsFault::Shows(text)) => return status_of(show_text(rt, &text)),
+        Err(ArgsFault::Usage) => return usage_status(rt),
+        Err(ArgsFault::NoMemory) => return memory_status(rt),
+    };
+    end_of(rt, folder, end)
 }
 
 /// Does what the command line asks for, and returns the exit status.

@@ -2,8 +2,8 @@
 use crate::add::added_text;
 use crate::folder::{file_in, path_in, read_files};
 use crate::left_out::{refuse_files, warn_of_left_out};
-use crate::status::{DONE, MEMORY, status_of};
-use crate::told::{SEE_EXPLAIN, print_text, refuse_cause, refuse_for, status_after};
+use crate::status::DONE;
+use crate::told::{SEE_EXPLAIN, no_memory, print_text, refuse_cause, refuse_for};
 use crate::warning::warn_of;
 use csvw_meta::{Limits, MetaFault, Schema, Schemas};
 use draft_args::DraftOptions;
@@ -28,53 +28,51 @@ const DEFECT: &str =
     ": csvw_draft made this draft, and the service refuses it: please report it, with this line";
 
 /// Reports why files have no draft, and returns the exit status.
-fn refuse_fault(rt: &HostRuntime, fault: &DraftFault, add: bool) -> u8 {
+fn refuse_fault(rt: &HostRuntime, fault: &DraftFault, add: bool) -> io::Result<u8> {
     match fault {
         DraftFault::NoTables => refuse_for(rt, NO_TABLES),
         DraftFault::TooManyTables => refuse_for(rt, TOO_MANY_TABLES),
         DraftFault::Refused(cause) if add => refuse_cause(rt, cause, SEE_EXPLAIN),
         DraftFault::Refused(cause) => refuse_cause(rt, cause, DEFECT),
-        DraftFault::NoMemory => MEMORY,
+        DraftFault::NoMemory => Err(no_memory()),
     }
 }
 
-/// Writes a text into the file of that path, which is taken away if it is not written whole; and gives the exit status.
-fn fill_file(rt: &HostRuntime, path: &str, mut file: File, text: &[u8]) -> u8 {
+/// Writes a text into the new file of a path. If it is not written whole, the file is taken away.
+fn fill_file(rt: &HostRuntime, path: &str, mut file: File, text: &[u8]) -> io::Result<()> {
     match file.write_all(text) {
-        Ok(()) => status_after(println!(rt; "wrote {path}"), DONE),
+        Ok(()) => Ok(()),
         Err(error) => {
             let _ = rt.remove_file(path);
-            status_of(Err(error))
+            Err(error)
         }
     }
 }
 
-/// Writes metadata at a path where nothing is, and gives the exit status.
-fn write_metadata(rt: &HostRuntime, path: &str, text: &[u8]) -> u8 {
+/// Writes metadata at a path where nothing is, and returns the exit status.
+fn write_metadata(rt: &HostRuntime, path: &str, text: &[u8]) -> io::Result<u8> {
     match File::create_new(rt, path) {
-        Ok(file) => fill_file(rt, path, file, text),
+        Ok(file) => fill_file(rt, path, file, text)?,
         Err(error) => match error.kind() {
-            ErrorKind::AlreadyExists => refuse_for(rt, NOT_WRITTEN),
-            _ => status_of(Err(error)),
+            ErrorKind::AlreadyExists => return refuse_for(rt, NOT_WRITTEN),
+            _ => return Err(error),
         },
     }
+    println!(rt; "wrote {path}")?;
+    Ok(DONE)
 }
 
 /// Writes metadata at a path over what is there: beside it first, so that what is there is whole at each moment; and returns the exit status.
 fn replace_metadata(rt: &HostRuntime, path: &str, text: &[u8]) -> io::Result<u8> {
     let new = format!(in rt.alloc(); "{path}.new")?;
-    let mut file = File::create(rt, new.as_str())?;
-    let written = match file.write_all(text) {
-        Ok(()) => rt.rename(new.as_str(), path),
-        Err(error) => Err(error),
-    };
-    match written {
-        Ok(()) => Ok(status_after(println!(rt; "wrote {path}"), DONE)),
-        Err(error) => {
-            let _ = rt.remove_file(new.as_str());
-            Err(error)
-        }
+    let file = File::create(rt, new.as_str())?;
+    fill_file(rt, new.as_str(), file, text)?;
+    if let Err(error) = rt.rename(new.as_str(), path) {
+        let _ = rt.remove_file(new.as_str());
+        return Err(error);
     }
+    println!(rt; "wrote {path}")?;
+    Ok(DONE)
 }
 
 /// Gives the text of metadata: prints it, or writes it at a path; and returns the exit status.
@@ -85,16 +83,12 @@ fn give_metadata(
     text: &[u8],
 ) -> io::Result<u8> {
     if asks.write && asks.add {
-        return replace_metadata(rt, path, text);
-    }
-    if asks.write {
-        return Ok(write_metadata(rt, path, text));
-    }
-    let status = print_text(rt, text);
-    if status == DONE {
-        Ok(print_text(rt, b"\n"))
+        replace_metadata(rt, path, text)
+    } else if asks.write {
+        write_metadata(rt, path, text)
     } else {
-        Ok(status)
+        print_text(rt, text)?;
+        print_text(rt, b"\n")
     }
 }
 
@@ -145,7 +139,7 @@ fn give_draft(
     let mut guess = guess_of(rt.alloc(), aims, files.as_slice())?;
     warn_of_left_out(rt, guess.left_out.as_slice(), files.as_slice())?;
     warn_of(rt, &guess, files.as_slice())?;
-    let status = refuse_files(rt, files.as_slice(), &guess, asks.skip);
+    let status = refuse_files(rt, files.as_slice(), &guess, asks.skip)?;
     if status != DONE {
         return Ok(status);
     }
@@ -155,7 +149,7 @@ fn give_draft(
     };
     match made {
         Ok(text) => give_metadata(rt, asks, path, text.as_slice()),
-        Err(fault) => Ok(refuse_fault(rt, &fault, asks.add)),
+        Err(fault) => refuse_fault(rt, &fault, asks.add),
     }
 }
 
@@ -163,7 +157,7 @@ fn give_draft(
 pub fn draft_folder(rt: &HostRuntime, asks: &DraftOptions<'_>, tells: bool) -> io::Result<u8> {
     let path = path_in(rt.alloc(), asks.folder, METADATA)?;
     if asks.write && !asks.add && rt.symlink_metadata(path.as_str()).is_ok() {
-        Ok(refuse_for(rt, NOT_WRITTEN))
+        refuse_for(rt, NOT_WRITTEN)
     } else {
         let files = read_files(rt, asks.folder, tells)?;
         give_draft(rt, asks, files, path.as_str())

@@ -1,8 +1,9 @@
 //! What the service understands of a folder, and why it refuses one.
-use crate::folder::{file_in, names_of};
-use crate::status::{DEVICE, MEMORY, REFUSED, status_of};
-use crate::told::{SEE_EXPLAIN, print_text, refuse, refuse_cause, refuse_for, status_after, tell};
+use crate::folder::{file_in, is_csv};
+use crate::status::DEVICE;
+use crate::told::{SEE_EXPLAIN, no_memory, print_text, refuse, refuse_cause, refuse_for};
 use catalog_sheet::catalog_text;
+use convert_folders::names_in;
 use csvw_meta::{Limits, MetaFault, Schema, Schemas};
 use diagnostics::{Line, Report, cut, refuse_metadata, refuse_table};
 use served_folders::{Disk, FolderFault, Folders, METADATA};
@@ -54,66 +55,52 @@ fn refuse_folder(rt: &HostRuntime, folder: &str, report: &mut Report) -> io::Res
 }
 
 /// Reports all that is refused of a folder that is refused for a cause, and what helps; and returns the exit status.
-fn explain_cause(rt: &HostRuntime, folder: &str, cause: &LoadFault) -> u8 {
+fn explain_cause(rt: &HostRuntime, folder: &str, cause: &LoadFault) -> io::Result<u8> {
     let mut report = Report::new(rt.alloc());
-    if let Err(error) = refuse_folder(rt, folder, &mut report) {
-        return status_of(Err(error));
-    }
+    refuse_folder(rt, folder, &mut report)?;
     let mut helps = replace(&mut report.helps, Line::new(rt.alloc()));
     helps.push(LAST_HELP);
-    match report.end(cause) {
-        Ok(lines) => match refuse(rt, lines.as_slice()) {
-            REFUSED => status_after(tell(rt, &helps), REFUSED),
-            status => status,
-        },
-        Err(_) => MEMORY,
-    }
+    let lines = report.end(cause)?;
+    refuse(rt, lines.as_slice(), &helps)
 }
 
-/// Reports why a folder has no catalog.
-fn tell_fault(rt: &HostRuntime, folder: &str, fault: &FolderFault, explains: bool) -> u8 {
+/// Reports why a folder has no catalog, and returns the exit status.
+fn tell_fault(
+    rt: &HostRuntime,
+    folder: &str,
+    fault: &FolderFault,
+    explains: bool,
+) -> io::Result<u8> {
     match fault {
         FolderFault::NoMetadata => refuse_for(rt, NO_METADATA),
-        FolderFault::Load(LoadFault::NoMemory) | FolderFault::NoMemory => MEMORY,
+        FolderFault::Load(LoadFault::NoMemory) | FolderFault::NoMemory => Err(no_memory()),
         FolderFault::Load(cause) if explains => explain_cause(rt, folder, cause),
         FolderFault::Load(cause) => refuse_cause(rt, cause, SEE_EXPLAIN),
-        FolderFault::Device => DEVICE,
+        FolderFault::Device => Ok(DEVICE),
     }
 }
 
-/// Reports the CSV files of a folder that no table names.
-fn tell_unpublished(rt: &HostRuntime, folder: &str, catalog: &Catalog) -> io::Result<()> {
-    for name in names_of(rt, folder)?.files {
+/// Prints what the service understands of the tables of a folder, and reports the CSV files that no table names.
+fn show_catalog(rt: &HostRuntime, folder: &str, catalog: &Catalog) -> io::Result<u8> {
+    let text = catalog_text(rt.alloc(), catalog)?;
+    for name in names_in(rt, folder)? {
         let mut tables = catalog.tables().iter();
-        if !tables.any(|table| table.schema().url.as_str() == name.as_str()) {
+        if is_csv(name.as_str())
+            && !tables.any(|table| table.schema().url.as_str() == name.as_str())
+        {
             let name = cut(rt.alloc(), name.as_str())?;
             eprintln!(rt; "not published: {name}: csvw_draft FOLDER --add drafts it")?;
         }
     }
-    Ok(())
-}
-
-/// Prints what the service understands of the tables of a folder, and reports the files that no table names.
-fn show_catalog(rt: &HostRuntime, folder: &str, catalog: &Catalog) -> io::Result<u8> {
-    let text = catalog_text(rt.alloc(), catalog)?;
-    tell_unpublished(rt, folder, catalog)?;
-    Ok(print_text(rt, text.as_slice()))
-}
-
-/// Shows the tables of a folder that is served; if it is asked why the folder is refused, it prints that it is accepted.
-fn tell_catalog(rt: &HostRuntime, folder: &str, catalog: &Catalog, explains: bool) -> u8 {
-    if explains {
-        print_text(rt, b"accepted\n")
-    } else {
-        status_of(show_catalog(rt, folder, catalog))
-    }
+    print_text(rt, text.as_slice())
 }
 
 /// Prints what the service understands of a folder, or reports why it is refused; and returns the exit status. To explain is to tell of all that is refused of it, a line for
-/// each.
-pub fn tell_folder(rt: &HostRuntime, folder: &str, explains: bool) -> u8 {
+/// each, or that it is accepted.
+pub fn tell_folder(rt: &HostRuntime, folder: &str, explains: bool) -> io::Result<u8> {
     match Disk::new(rt).load(rt.alloc(), folder) {
-        Ok(catalog) => tell_catalog(rt, folder, &catalog, explains),
+        Ok(_) if explains => print_text(rt, b"accepted\n"),
+        Ok(catalog) => show_catalog(rt, folder, &catalog),
         Err(fault) => tell_fault(rt, folder, &fault, explains),
     }
 }

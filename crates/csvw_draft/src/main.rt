@@ -8,6 +8,7 @@ mod draft;
 mod explain;
 mod folder;
 mod left_out;
+mod splice;
 mod status;
 mod told;
 mod warning;

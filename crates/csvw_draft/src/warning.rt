@@ -16,6 +16,7 @@ pub fn warn_of(rt: &HostRuntime, guess: &Guess, files: &[NamedFile]) -> io::Resu
         {
             lines.push("warning: ");
             lines.push_made(cut(rt.alloc(), file.name.as_str()));
+            lines.push(": ");
             push_warning(&mut lines, warning, guess, file);
             lines.push("\n");
         }

@@ -5,49 +5,43 @@ use diagnostics::Line;
 use schema_inference::{Guess, Warning};
 use table_store::NamedFile;
 
+/// Returns the number of the file of a warning.
+pub fn file_of(warning: &Warning) -> usize {
+    match warning {
+        Warning::OtherSeparator { file, .. }
+        | Warning::HeaderIsData { file }
+        | Warning::TwoDates { file, .. }
+        | Warning::TooFine { file, .. }
+        | Warning::Alike { file, .. }
+        | Warning::Days { file, .. }
+        | Warning::Version { file, .. }
+        | Warning::NullElsewhere { file, .. }
+        | Warning::EmptyHeader { file, .. }
+        | Warning::EmptyRows { file, .. } => *file,
+    }
+}
+
+/// What is said of a header that looks like a row.
+const HEADER: &str = "the first line looks like data: mlr --csv --implicit-csv-header label A,B ";
+
+/// What is said of dates that two formats read.
+const TWO_DATES: &str =
+    ": a string, since dd/MM/yyyy and MM/dd/yyyy both read each date: write the format that is meant";
+
+/// What is said of versions.
+const VERSION: &str =
+    ": a string, since version 4.10 is not version 4.1: write decimal if these are numbers";
+
+/// What is said of integers that are days.
+const DAYS: &str =
+    " cells are days as yyyyMMdd: write {\"base\": \"date\", \"format\": \"yyyyMMdd\"} for the datatype if they are meant so";
+
 /// Returns what reads fields that a byte separates.
 fn separator_warning(byte: u8) -> &'static str {
     match byte {
-        b';' => ": one column, and `;` is in each line: csvformat -d ';' ",
-        b'\t' => ": one column, and a tab is in each line: csvformat -t ",
-        _ => ": one column, and `|` is in each line: csvformat -d '|' ",
-    }
-}
-
-/// Returns the file of a warning, and what is said after its name.
-fn parts_of(warning: &Warning) -> (usize, &'static str) {
-    match warning {
-        Warning::OtherSeparator { file, byte } => (*file, separator_warning(*byte)),
-        Warning::HeaderIsData { file } => (
-            *file,
-            ": the first line looks like data: mlr --csv --implicit-csv-header label A,B ",
-        ),
-        Warning::TwoDates { file, .. } => (
-            *file,
-            ": a string, since dd/MM/yyyy and MM/dd/yyyy both read each date: write the format that is meant",
-        ),
-        Warning::TooFine { file, .. } => (*file, ": "),
-        Warning::Alike { file, .. } => (*file, ": string; "),
-        Warning::Days { file, .. } => (*file, ": integer; all "),
-        Warning::Version { file, .. } => (
-            *file,
-            ": a string, since version 4.10 is not version 4.1: write decimal if these are numbers",
-        ),
-        Warning::NullElsewhere { file, .. } => (*file, ": "),
-        Warning::EmptyHeader { file, .. } => (*file, ": "),
-        Warning::EmptyRows { file, .. } => (*file, ": rows of empty cells at the end: "),
-    }
-}
-
-/// Returns the column of a warning that is said after the name of the file.
-fn column_of(warning: &Warning) -> Option<usize> {
-    match warning {
-        Warning::TwoDates { col, .. }
-        | Warning::Alike { col, .. }
-        | Warning::Days { col, .. }
-        | Warning::Version { col, .. }
-        | Warning::NullElsewhere { col, .. } => Some(*col),
-        _ => None,
+        b';' => "one column, and `;` is in each line: csvformat -d ';' ",
+        b'\t' => "one column, and a tab is in each line: csvformat -t ",
+        _ => "one column, and `|` is in each line: csvformat -d '|' ",
     }
 }
 
@@ -157,9 +151,9 @@ fn push_rounding(lines: &mut Line, warning: &Warning, all: &[Warning], schema: &
     lines.push(" rounds them");
 }
 
-/// Appends what most cells of a column look like, and the first that looks different.
+/// Appends what cells of a column look like, as far as the warning is of that, and the first that looks different.
 fn push_alike(lines: &mut Line, warning: &Warning, file: &NamedFile) {
-    let Warning::Alike {
+    if let Warning::Alike {
         col,
         form,
         cells,
@@ -167,91 +161,104 @@ fn push_alike(lines: &mut Line, warning: &Warning, file: &NamedFile) {
         other,
         ..
     } = warning
-    else {
-        return;
-    };
-    if other.is_none() {
-        lines.push("all ");
-    } else {
-        push_count(lines, *alike);
-        lines.push(" of ");
-    }
-    push_count(lines, *cells);
-    lines.push(" cells look like ");
-    lines.push(form);
-    if let Some(row) = other {
-        lines.push("; ");
-        push_cell(lines, file.bytes.as_slice(), *row, *col);
+    {
+        if other.is_none() {
+            lines.push("all ");
+        } else {
+            push_count(lines, *alike);
+            lines.push(" of ");
+        }
+        push_count(lines, *cells);
+        lines.push(" cells look like ");
+        lines.push(form);
+        if let Some(row) = other {
+            lines.push("; ");
+            push_cell(lines, file.bytes.as_slice(), *row, *col);
+        }
     }
 }
 
-/// Appends the name of a file, and what a command makes of it.
-fn push_made_of(lines: &mut Line, file: &NamedFile, made: &str) {
+/// Appends what makes a CSV file of a file.
+fn push_command(lines: &mut Line, before: &str, file: &NamedFile, after: &str) {
+    lines.push(before);
     lines.push(file.name.as_str());
-    lines.push(made);
+    lines.push(after);
 }
 
-/// Appends what a warning of a column says further.
-fn push_of_column(lines: &mut Line, warning: &Warning, guess: &Guess, file: &NamedFile) {
-    let schema = schema_of(guess, file.name.as_str());
-    let all = guess.warnings.as_slice();
+/// Appends a column, and a text after it.
+fn push_said(lines: &mut Line, schema: Option<&Schema>, col: usize, text: &str) {
+    push_column(lines, schema, col);
+    lines.push(text);
+}
+
+/// Appends what a warning of a column says.
+fn push_of_column(lines: &mut Line, warning: &Warning, schema: Option<&Schema>, file: &NamedFile) {
     match warning {
-        Warning::TooFine { .. } => {
-            push_columns(lines, warning, all);
-            if let Some(schema) = schema {
-                push_rounding(lines, warning, all, schema);
-            }
+        Warning::TwoDates { col, .. } => push_said(lines, schema, *col, TWO_DATES),
+        Warning::Version { col, .. } => push_said(lines, schema, *col, VERSION),
+        Warning::Days { col, cells, .. } => {
+            push_said(lines, schema, *col, ": integer; all ");
+            push_count(lines, *cells);
+            lines.push(DAYS);
+        }
+        Warning::Alike { col, .. } => {
+            push_said(lines, schema, *col, ": string; ");
+            push_alike(lines, warning, file);
         }
         Warning::NullElsewhere {
+            col,
             other,
             word,
             cells,
             ..
         } => {
+            push_said(lines, schema, *col, ": ");
             push_count(lines, *cells);
             lines.push(" of its cells are ");
             lines.push_quoted(word);
             lines.push(", a text here, and null in ");
             push_column(lines, schema, *other);
         }
+        _ => {}
+    }
+}
+
+/// Appends what a warning says after the name of its file: the column, if it is of one, and what helps.
+pub fn push_warning(lines: &mut Line, warning: &Warning, guess: &Guess, file: &NamedFile) {
+    let schema = schema_of(guess, file.name.as_str());
+    let all = guess.warnings.as_slice();
+    match warning {
+        Warning::OtherSeparator { byte, .. } => {
+            push_command(
+                lines,
+                separator_warning(*byte),
+                file,
+                " makes it a CSV file",
+            );
+        }
+        Warning::HeaderIsData { .. } => push_command(
+            lines,
+            HEADER,
+            file,
+            " gives the file a header",
+        ),
+        Warning::EmptyRows { rows, .. } => {
+            lines.push("rows of empty cells at the end: ");
+            push_count(lines, *rows);
+        }
         Warning::EmptyHeader { .. } => {
             lines.push("the header cells of ");
             push_columns(lines, warning, all);
             lines.push(" are empty: the first line should have a name for each column");
         }
-        _ => push_alike(lines, warning, file),
-    }
-}
-
-/// Appends what a warning says further.
-fn push_details(lines: &mut Line, warning: &Warning, guess: &Guess, file: &NamedFile) {
-    match warning {
-        Warning::EmptyRows { rows, .. } => push_count(lines, *rows),
-        Warning::Days { cells, .. } => {
-            push_count(lines, *cells);
-            lines.push(
-                " cells are days as yyyyMMdd: write {\"base\": \"date\", \"format\": \"yyyyMMdd\"} for the datatype if they are meant so",
-            );
+        Warning::TooFine { .. } => {
+            push_columns(lines, warning, all);
+            if let Some(schema) = schema {
+                push_rounding(lines, warning, all, schema);
+            }
         }
-        Warning::OtherSeparator { .. } => push_made_of(lines, file, " makes it a CSV file"),
-        Warning::HeaderIsData { .. } => push_made_of(lines, file, " gives the file a header"),
-        _ => push_of_column(lines, warning, guess, file),
+        _ => push_of_column(lines, warning, schema, file),
     }
-}
-
-/// Returns the number of the file of a warning.
-pub fn file_of(warning: &Warning) -> usize {
-    parts_of(warning).0
-}
-
-/// Appends what a warning says after the name of its file: the column, if it is of one, and what helps.
-pub fn push_warning(lines: &mut Line, warning: &Warning, guess: &Guess, file: &NamedFile) {
-    if let Some(col) = column_of(warning) {
-        lines.push(": ");
-        push_column(lines, schema_of(guess, file.name.as_str()), col);
-    }
-    lines.push(parts_of(warning).1);
-    push_details(lines, warning, guess, file);
 }
 
 /// Returns true if a warning, by its place among all, is said together with an earlier one.
