@@ -1,8 +1,7 @@
 -- Sizes to which others are added.
-use Rattle.std.specs.Prelude.{◌≡◌, ◌+◌, ◌<◌, ℕ, Bool, List, [], IsTrue, get_or, length}
+use Rattle.std.specs.Prelude.{◌≡◌, ◌+◌, ◌<◌, ℕ, List, [], get_or, length}
 use Rattle.std.specs.List.{flat_map}
-use Rattle.cell_types.specs.Value.{CellValue, null, text as text_cell}
-use Rattle.reply_values.specs.Printed.{is_plain_text}
+use Rattle.cell_types.specs.Value.{CellValue, null}
 use Rattle.reply_values.specs.Size.{told}
 
 -- to each size is added that of the text of its cell
@@ -14,10 +13,6 @@ pub record AreCellsCounted (text : CellValue → List ℕ) (cells : List CellVal
 pub record AreCellsCountedFrom (text : CellValue → List ℕ) (first : ℕ) (cells : List CellValue) (old new : List ℕ) : Type 0 where
   pub long : length new ≡ length old
   pub each : (i : ℕ) → i < length old → get_or new i 0 ≡ told (get_or old i 0 + length (text (get_or cells (first + i) null)))
-
--- a text has no byte that does not stand for itself
-abbrev pub IsPlainCell : Bool → CellValue → Type 0
-IsPlainCell json cell = (t : List ℕ) → cell ≡ text_cell t → IsTrue (is_plain_text json t)
 
 -- these are the sizes of the rows from one on, each of which takes `frame` bytes without its values
 abbrev pub AreRowsCounted : (CellValue → List ℕ) → List (List CellValue) → ℕ → ℕ → List ℕ → Type 0

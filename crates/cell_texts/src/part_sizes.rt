@@ -2,10 +2,10 @@
 ghost use Rattle.std.specs.Prelude.{◌≡◌, ◌+◌, ◌<◌, ◌≤◌, ℕ, IsTrue, length, slice_index_or};
 ghost use Rattle.block_summary.specs.Types.{cells_of_kind, numbers_of};
 ghost use Rattle.block_summary.specs.declared.block.TheConstants.{BLOCK_ROWS};
-ghost use Rattle.cell_texts.specs.Sizes.{AreCellsCounted, AreCellsCountedFrom, IsPlainCell};
+ghost use Rattle.cell_texts.specs.Sizes.{AreCellsCounted, AreCellsCountedFrom};
 ghost use Rattle.cell_types.specs.Value.{null};
 ghost use Rattle.reply_values.specs.Printed.{printed_value};
-ghost use Rattle.text_columns.specs.PlainParts.{ArePlainRows};
+ghost use Rattle.text_columns.specs.PlainParts.{ArePlainRows, IsPlainCell};
 ghost use Rattle.text_columns.specs.Texts.{AreTextLengths};
 
 use crate::sizes::{cell_size, known_size};

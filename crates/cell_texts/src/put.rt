@@ -1,25 +1,38 @@
 //! The texts of cells, written into room that is there.
-ghost use Rattle.std.specs.Prelude.{◌+◌, ◌≤◌, length};
+ghost use Rattle.std.specs.Prelude.{◌+◌, ◌<◌, ◌≤◌, get_or, length};
+ghost use Rattle.cell_types.specs.Value.{null};
 ghost use Rattle.reply_values.specs.Printed.{printed_value};
 ghost use Rattle.reply_values.specs.Size.{IsWrittenAt};
-ghost use Rattle.row_columns.specs.Cell.{cell_view};
 
-use reply_values::{put_bool, put_date, put_decimal, put_integer, put_piece, put_text, put_value};
-use row_columns::Cell;
+use reply_values::{
+    put_bool, put_date, put_decimal, put_integer, put_piece, put_plain, put_text, put_value,
+};
+use row_columns::{Cell, RowRef};
 
-/// Writes a cell, in JSON or in CSV.
+/// Writes the cell of a row in a column, in JSON or in CSV. A text is not looked at if its block knows that each of its bytes stands for itself.
 #[inline(always)]
-pub fn put_cell<const JSON: bool>(out: &mut [u8], at: usize, cell: Cell<'_>) -> usize
-    requires { at + length (printed_value JSON (cell_view cell)) ≤ length out.old }
-    ensures { IsWrittenAt out.old out.new at result (printed_value JSON (cell_view cell.entry)) }
+pub fn put_cell<const JSON: bool>(
+    out: &mut [u8],
+    at: usize,
+    values: &RowRef<'_>,
+    col: usize,
+) -> usize
+    requires col { col < length values.now }
+    requires room { at + length (printed_value JSON (get_or values.now col null))
+        ≤ length out.old }
+    ensures { IsWrittenAt out.old out.new at result
+        (printed_value JSON (get_or values.now col null)) }
 {
-    match cell {
+    match values.cell(col) {
         Cell::Null if JSON => put_piece(out, at, b"null"),
         Cell::Null => at,
         Cell::Integer(number) => put_integer(out, at, i128::from(number)),
         Cell::Decimal(millionths) => put_decimal(out, at, i128::from(millionths)),
         Cell::Boolean(truth) => put_bool(out, at, truth),
         Cell::Date(date) => put_date::<JSON>(out, at, date),
+        Cell::Text(text) if values.is_plain::<JSON>(col) => {
+            put_plain::<JSON>(out, at, text.as_bytes())
+        }
         Cell::Text(text) => put_text::<JSON>(out, at, text.as_bytes()),
         Cell::Value(value) => put_value::<JSON>(out, at, value),
     }

@@ -1,9 +1,9 @@
 //! How many bytes the texts of cells take, or do not pass. None is written.
 ghost use Rattle.std.specs.Prelude.{◌≡◌, ◌≤◌, IsTrue, length};
-ghost use Rattle.cell_texts.specs.Sizes.{IsPlainCell};
 ghost use Rattle.reply_values.specs.Printed.{printed_value};
 ghost use Rattle.reply_values.specs.Size.{told};
 ghost use Rattle.row_columns.specs.Cell.{cell_view};
+ghost use Rattle.text_columns.specs.PlainParts.{IsPlainCell};
 
 use reply_values::{
     bool_size, date_size, decimal_size, integer_size, number_room, plain_size, text_room,

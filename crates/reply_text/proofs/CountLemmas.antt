@@ -1,5 +1,5 @@
 -- How many bytes rows take, in whatever order they are counted.
-use Rattle.std.proofs.Common.{◌≡◌, ◌<◌, ◌≤◌, ℕ, ◌+◌, ◌-◌, ◌*◌, ◌^◌, Bool, true, false, List, [], ◌∷◌, ◌++◌, Option, None, Some, codes, get_or, length, map, take, refl, sym, ap, ◌∙◌, subst, arith, length-append}
+use Rattle.std.proofs.Common.{◌≡◌, ◌<◌, ◌≤◌, ℕ, ◌+◌, ◌-◌, ◌*◌, ◌^◌, Bool, true, false, List, [], ◌∷◌, ◌++◌, codes, get_or, length, map, take, refl, sym, ap, ◌∙◌, subst, arith, length-append}
 use Rattle.std.specs.Prelude.{if◌then◌else◌, max, min}
 use Rattle.std.specs.List.{AllByRecursion, concat, flat_map, join_with_byte, sum_by}
 use Rattle.std.specs.List.Sorted.{IsPermutation}
@@ -87,13 +87,11 @@ rows_apart : (json : Bool) (names : List (List ℕ)) (rows : List (List CellValu
 rows_apart json names [] = record { all = omega arith; least = omega arith; most = omega arith }
 rows_apart json names (row ∷ rows) =
     let first = first_long json names row in
-    let is = first.0 in
-    let few = first.1 in
     let rest = later json names rows in
     record {
-      all = omega (arith, is, few, length-append (row_piece json names 0 row) (concat rest), length-append (row_piece json names 1 row) (concat rest));
-      least = omega (arith, is);
-      most = omega (arith, is, few);
+      all = omega (arith, first.0, first.1, length-append (row_piece json names 0 row) (concat rest), length-append (row_piece json names 1 row) (concat rest));
+      least = omega (arith, first.0);
+      most = omega (arith, first.0, first.1);
     }
 
 longest_append : (xs ys : List (List ℕ)) → longest_of (xs ++ ys) ≡ max (longest_of xs) (longest_of ys)
@@ -106,11 +104,7 @@ end_long false = (refl, refl, omega arith)
 
 -- no end is longer than the opening
 opening_long : (json : Bool) (rows : RowsOf) → 2 ≤ length (opening_text json rows)
-opening_long true rows = by rows.count
-  where
-    by : (count : Option ℕ) → 2 ≤ length (codes "{" ++ json_count count ++ json_text (codes "value") ++ codes ":[")
-    by None = omega arith
-    by (Some n) = omega arith
+opening_long true rows = let long = length-append (json_count rows.count) (json_text (codes "value") ++ codes ":[") in grind (arith, long)
 opening_long false rows = omega (arith, length-append (join_with_byte 44 rows.names) (13 ∷ 10 ∷ []))
 
 -- all pieces, with what comes before and after the rows
@@ -135,9 +129,6 @@ all_sizes json rows sizes opening end all most now last has whole opening_is end
     let apart = rows_apart json rows.names rows.rows in
     let longest = longest_append ours ends in
     let lengths = end_long json in
-    let end_all = lengths.0 in
-    let end_longest = lengths.1 in
-    let few = lengths.2 in
     let long = opening_long json rows in
     let sum : now ≡ told (length (concat (body_pieces json rows))) =
     omega (
@@ -149,8 +140,8 @@ all_sizes json rows sizes opening end all most now last has whole opening_is end
       end_is,
       all_is,
       now_is,
-      end_all,
-      few,
+      lengths.0,
+      lengths.2,
       length-append (opening_text json rows) (concat (ours ++ ends)),
       ap length (concat-append ours ends),
       length-append (concat ours) (concat ends),
@@ -158,7 +149,7 @@ all_sizes json rows sizes opening end all most now last has whole opening_is end
     record {
       all = sum;
       longest = λ less. record {
-        least = omega (arith, less, sum, longest_within (body_pieces json rows), counted.most, apart.least, longest, end_longest, few, long, opening_is, most_is, last_is);
-        most = omega (arith, counted.most, apart.most, longest, few, long, opening_is, end_is, most_is, last_is);
+        least = omega (arith, less, sum, longest_within (body_pieces json rows), counted.most, apart.least, longest, lengths.1, lengths.2, long, opening_is, most_is, last_is);
+        most = omega (arith, counted.most, apart.most, longest, lengths.2, long, opening_is, end_is, most_is, last_is);
       };
     }

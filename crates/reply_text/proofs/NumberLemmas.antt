@@ -5,7 +5,7 @@ use Rattle.std.specs.Prelude.{unsigned_abs}
 use Rattle.std.specs.Char.{is_ascii_digit}
 use Rattle.std.specs.List.{list_all, prefix_len, AllByRecursion}
 use Rattle.std.proofs.Math.Seq.{drop-append_seam}
-use Rattle.std.proofs.lemmas.Bool.{and_from, and_parts, eqb-true, le-leb, ne_eqb}
+use Rattle.std.proofs.lemmas.Bool.{and_from, and_parts, eqb-true, false≢true, le-leb, ne_eqb}
 use Rattle.std.proofs.lemmas.Fmt.{decimal_by_steps_wide}
 use Rattle.std.proofs.lemmas.List.{append-nil}
 use Rattle.json.specs.Print.{IsNumber}
@@ -138,10 +138,7 @@ is_fraction n h = by (n == 0) refl
   where
     by : (t : Bool) → (n == 0) ≡ t → IsFraction (cond t [] (46 ∷ without_last_zeros (six_digits n)))
     by true e = no_fraction
-    by false e = some_left (six_digits n) (six_are_digits n h) (λ all. absurd (false_true (sym e ∙ ap (λ k. k == 0) (all_nought n h all))))
-      where
-        false_true : false ≡ true → ⊥
-        false_true e = cc
+    by false e = some_left (six_digits n) (six_are_digits n h) (λ all. false≢true (sym e ∙ ap (λ k. k == 0) (all_nought n h all)))
 
 pub decimal_is_number : (z : ℤ) → unsigned_abs z < 10 ^ 64 → IsNumber (decimal_text z)
 unfolding decimal_text

@@ -143,20 +143,13 @@ body_is_pieces false rows =
 pub rows_more : (json : Bool) (names : List (List ℕ)) (rows : List (List CellValue)) (start before after : List ℕ) (n : ℕ) → before ≡ start ++ concat (take n (row_pieces json names rows))
     → n < length rows → after ≡ before ++ row_piece json names n (get_or rows n []) → after ≡ start ++ concat (take (n + 1) (row_pieces json names rows))
 rows_more json names rows start before after n so_far within is =
-    let pieces = row_pieces json names rows in
-    let front = concat (take n pieces) in
-    let next = get_or pieces n [] in
-    let all : concat (take (n + 1) pieces) ≡ front ++ next =
-    ap concat (take_more pieces n [] (omega (arith, within, rows_count json names rows))) ∙ concat-append (take n pieces) (next ∷ []) ∙ ap (λ l. front ++ l) (append-nil next) in
-    is ∙ ap (λ l. l ++ row_piece json names n (get_or rows n [])) so_far ∙ append_assoc start front (row_piece json names n (get_or rows n []))
-    ∙ ap (λ l. start ++ (front ++ l)) (sym (row_is_at json names rows n within)) ∙ ap (λ l. start ++ l) (sym all)
+    let more = take_more (row_pieces json names rows) n [] (omega (arith, within, rows_count json names rows)) in
+    rw (more, concat-append, row_is_at json names rows n within, append-nil, ← append_assoc, ← so_far) is
 
 pub body_whole : (json : Bool) (rows : RowsOf) (n : ℕ) → length rows.rows ≤ n → (opening_text json rows ++ concat (take n (row_pieces json rows.names rows.rows))) ++ concat (end_pieces json) ≡ body_text json rows
 body_whole json rows n all =
-    let pieces = row_pieces json rows.names rows.rows in
-    append_assoc (opening_text json rows) (concat (take n pieces)) (concat (end_pieces json))
-    ∙ ap (λ l. opening_text json rows ++ (concat l ++ concat (end_pieces json))) (take_all n pieces (omega (arith, all, rows_count json rows.names rows.rows)))
-    ∙ ap (λ l. opening_text json rows ++ l) (sym (concat-append pieces (end_pieces json))) ∙ body_is_pieces json rows
+    let every = take_all n (row_pieces json rows.names rows.rows) (omega (arith, all, rows_count json rows.names rows.rows)) in
+    rw (append_assoc, every, ← concat-append) (body_is_pieces json rows)
 
 pub body_long : (json : Bool) (rows : RowsOf) (n : ℕ) → length (opening_text json rows ++ concat (take n (row_pieces json rows.names rows.rows))) ≤ length (body_text json rows)
 body_long json rows n =

@@ -1,15 +1,14 @@
 -- The lines of rows are lines of the grammar.
-use Rattle.std.proofs.Common.{◌≡◌, ℕ, zero, suc, ◌+◌, ◌<◌, ◌≤◌, ◌/◌, ◌%◌, Bool, true, false, cond, eqb, ltb, ℤ, pos, negsuc, List, [], ◌∷◌, ◌++◌, length, map, None, refl, sym, ap, ap₂, ◌∙◌, append-nil, arith, tests}
-use Rattle.std.specs.Prelude.{IsTrue, ◌||◌, not, ◌==◌, if◌then◌else◌, unsigned_abs}
-use Rattle.std.proofs.lemmas.Bool.{false≢true, or_parts}
+use Rattle.std.proofs.Common.{◌≡◌, ℕ, zero, suc, ◌<◌, ◌≤◌, ◌/◌, ◌%◌, Bool, true, false, cond, eqb, ℤ, pos, negsuc, List, [], ◌∷◌, ◌++◌, length, map, None, refl, sym, ap, ap₂, ◌∙◌, append-nil, arith, tests}
+use Rattle.std.specs.Prelude.{IsTrue, not, ◌==◌, if◌then◌else◌, unsigned_abs}
+use Rattle.std.proofs.lemmas.Bool.{or_parts}
 use Rattle.std.proofs.lemmas.List.{length-map, map-id}
 use Rattle.std.proofs.lemmas.Simd.{map-map}
 use Rattle.std.specs.List.{flat_map, join_with_byte, list_any, AllByRecursion}
 use Rattle.std.specs.Fmt.{digit_glyph, digits_onto, digits, decimal, signed_decimal}
 use Rattle.csv_grammar.specs.Bytes.{comma, carriage_return, line_feed}
 use Rattle.csv_grammar.specs.Records.{Field, unquoted, quoted, crlf, Line, is_plain, print_field, print_record, print_line, IsField, IsRecord, AreRecords}
-use Rattle.cell_types.specs.Date.{two_digits}
-use Rattle.cell_types.specs.Decimal.{decimal_text, fraction_text, millionths_text, six_digits, without_last_zeros}
+use Rattle.cell_types.specs.Decimal.{decimal_text, fraction_text, millionths_text, six_digits}
 use Rattle.cell_types.specs.Value as cell
 use Rattle.cell_types.specs.Value.{CellValue, null, integer, text, boolean, date}
 use Rattle.result_rows.specs.Rows.{RowsOf}
@@ -27,20 +26,16 @@ abbrev pub AreAbove : List ℕ → Type 0
 AreAbove bytes = AllByRecursion (λ b. 45 ≤ b) bytes
 
 glyph_above : (d : ℕ) → 45 ≤ digit_glyph false d
-glyph_above d = by (ltb d 10)
-  where
-    by : (t : Bool) → 45 ≤ cond t (48 + d) (87 + d)
-    by true = omega arith
-    by false = omega arith
+glyph_above d = grind (arith, tests)
+
+either_above : (t : Bool) (xs ys : List ℕ) → AreAbove xs → AreAbove ys → AreAbove (cond t xs ys)
+either_above true xs ys p q = p
+either_above false xs ys p q = q
 
 onto_above : (k n : ℕ) (acc : List ℕ) → AreAbove acc → AreAbove (digits_onto k 10 false n acc)
 onto_above zero n acc above = above
 onto_above (suc k) n acc above =
-    either (eqb (n / 10) 0) _ _ (glyph_above (n % 10), above) (onto_above k (n / 10) (digit_glyph false (n % 10) ∷ acc) (glyph_above (n % 10), above))
-  where
-    either : (t : Bool) (xs ys : List ℕ) → AreAbove xs → AreAbove ys → AreAbove (cond t xs ys)
-    either true xs ys p q = p
-    either false xs ys p q = q
+    either_above (eqb (n / 10) 0) _ _ (glyph_above (n % 10), above) (onto_above k (n / 10) (digit_glyph false (n % 10) ∷ acc) (glyph_above (n % 10), above))
 
 decimal_above : (n : ℕ) → AreAbove (decimal n)
 unfolding digits
@@ -57,19 +52,11 @@ day_above : (year : ℤ) (month day : ℕ) → AreAbove (day_text year month day
 day_above year month day =
     all-day (λ b. 45 ≤ b) year month day (omega arith) (omega arith) (pad2_above (unsigned_abs year / 100)) (pad2_above (unsigned_abs year % 100)) (pad2_above month) (pad2_above day)
 
-two_above : (n : ℕ) → AreAbove (two_digits n)
-two_above n = (omega arith, (omega arith, tt))
-
 six_above : (n : ℕ) → AreAbove (six_digits n)
-six_above n = all-append (λ b. 45 ≤ b) (two_digits (n / 10_000)) (two_digits (n % 10_000 / 100) ++ two_digits (n % 10_000 % 100)) (two_above (n / 10_000))
-    (all-append (λ b. 45 ≤ b) (two_digits (n % 10_000 / 100)) (two_digits (n % 10_000 % 100)) (two_above (n % 10_000 / 100)) (two_above (n % 10_000 % 100)))
+six_above n = (omega arith, (omega arith, (omega arith, (omega arith, (omega arith, (omega arith, tt))))))
 
 fraction_above : (n : ℕ) → AreAbove (fraction_text n)
-fraction_above n = by (eqb n 0)
-  where
-    by : (t : Bool) → AreAbove (cond t [] (46 ∷ without_last_zeros (six_digits n)))
-    by true = tt
-    by false = (omega arith, all-trimmed (λ b. 45 ≤ b) (six_digits n) (six_above n))
+fraction_above n = either_above (eqb n 0) _ _ tt (omega arith, all-trimmed (λ b. 45 ≤ b) (six_digits n) (six_above n))
 
 number_above : (n : ℕ) → AreAbove (millionths_text n)
 number_above n = all-append (λ b. 45 ≤ b) (decimal (n / 1_000_000)) (fraction_text (n % 1_000_000)) (decimal_above (n / 1_000_000)) (fraction_above (n % 1_000_000))
@@ -95,12 +82,9 @@ plain_bool false = (refl, (refl, (refl, (refl, (refl, tt)))))
 -- a text that needs none
 plain_text : (bytes : List ℕ) → list_any (needs_more false) bytes ≡ false → AllByRecursion (λ b. IsTrue (is_plain b)) bytes
 plain_text [] none = tt
-plain_text (b ∷ bytes) none = by (is_plain b) refl none (plain_text bytes)
-  where
-    by : (t : Bool) → is_plain b ≡ t → (not t || list_any (needs_more false) bytes) ≡ false
-        → (list_any (needs_more false) bytes ≡ false → AllByRecursion (λ b. IsTrue (is_plain b)) bytes) → AllByRecursion (λ b. IsTrue (is_plain b)) (b ∷ bytes)
-    by true e n rest = (e, rest n)
-    by false e n rest = absurd (false≢true (sym n))
+plain_text (b ∷ bytes) none =
+    let parts = or_parts (not (is_plain b)) (list_any (needs_more false) bytes) none in
+    (grind (arith, tests, parts.0), plain_text bytes parts.1)
 
 -- ---- the field of a value
 

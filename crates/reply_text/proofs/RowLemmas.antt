@@ -5,7 +5,7 @@ use Rattle.std.specs.List.{concat, flat_map, join_with_byte, zip}
 use Rattle.std.proofs.lemmas.List.{get_or-map, get_or_default, length-map, length-take-le, take_all, take_more}
 use Rattle.std.proofs.lemmas.Option.{get_or_from_slice_get}
 use Rattle.std.proofs.lemmas.Slice.Zip.{get_or-zip, length-zip}
-use Rattle.cell_types.specs.Value.{CellValue}
+use Rattle.cell_types.specs.Value.{CellValue, null}
 use Rattle.reply_text.specs.Json.{comma_before, json_member}
 use Rattle.reply_text.specs.Pieces.{printed_row, row_piece, value_head, AreHeads}
 use Rattle.reply_text.specs.RowSizes.{labels_size, IsRowFrame}
@@ -174,10 +174,10 @@ labels_same false under names same = refl
 pub is_set : (n : ℕ) → (n ≡ 0 → ⊥) → not (n == 0) ≡ true
 is_set n other = grind (arith, tests, other)
 
-pub lent_value : (rows : List (List CellValue)) (row col : ℕ) (lent : List CellValue) (value : CellValue) → slice_get rows row ≡ Some lent → slice_get lent col ≡ Some value
-    → get_or (get_or rows row []) col value ≡ value
-lent_value rows row col lent value there is =
-    ap (λ values. get_or values col value) (get_or_from_slice_get rows row lent [] there) ∙ get_or_from_slice_get lent col value value is
+pub lent_value : (rows : List (List CellValue)) (row col : ℕ) (lent : List CellValue) → slice_get rows row ≡ Some lent → col < length lent
+    → get_or (get_or rows row []) col (get_or lent col null) ≡ get_or lent col null
+lent_value rows row col lent there inside =
+    ap (λ values. get_or values col (get_or lent col null)) (get_or_from_slice_get rows row lent [] there) ∙ get_or_default lent col (get_or lent col null) null inside
 
 pub lent_width : (rows : List (List CellValue)) (row width : ℕ) (lent : List CellValue) → slice_get rows row ≡ Some lent → length lent ≡ width → length (get_or rows row []) ≡ width
 lent_width rows row width lent there wide = ap length (get_or_from_slice_get rows row lent [] there) ∙ wide

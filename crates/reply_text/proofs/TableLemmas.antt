@@ -34,9 +34,7 @@ name_byte_above b h = grind (arith, tests)
 
 bytes_above : (bytes : List ℕ) → list_all is_name_byte bytes ≡ true → AreAbove bytes
 bytes_above [] all = tt
-bytes_above (b ∷ bytes) all =
-    let parts = and_parts (is_name_byte b) (list_all is_name_byte bytes) all in
-    (name_byte_above b parts.0, bytes_above bytes parts.1)
+bytes_above (b ∷ bytes) all = let parts = and_parts _ _ all in (name_byte_above b parts.0, bytes_above bytes parts.1)
 
 plain_name : (name : List ℕ) → is_column_name name ≡ true → IsField (unquoted name)
 plain_name [] is = tt

@@ -31,9 +31,7 @@ IsLow b = (45 ≤ b) × (b ≤ 57)
 escape_low : (bytes : List ℕ) → AllByRecursion IsLow bytes → escape bytes ≡ bytes
 escape_low [] low = refl
 escape_low (x ∷ bytes) low =
-    let l = low.0.0 in
-    let h = low.0.1 in
-    ap₂ (λ a b. a ++ b) (escape_byte_plain x (λ e. omega (arith, l, e)) (λ e. omega (arith, h, e)) (omega (arith, l))) (escape_low bytes low.1)
+    ap₂ (λ a b. a ++ b) (escape_byte_plain x (λ e. omega (arith, low.0.0, e)) (λ e. omega (arith, low.0.1, e)) (omega (arith, low.0.0))) (escape_low bytes low.1)
 
 pad2_low : (n : ℕ) → n < 100 → AllByRecursion IsLow (pad2 n)
 pad2_low n h = ((omega arith, omega (arith, h)), ((omega arith, omega arith), tt))
@@ -158,12 +156,10 @@ items_flat names (row ∷ rows) fit = max-le (row_flat names row fit.0) (items_f
 
 body_flat : (names : List (List ℕ)) (rows : List (List CellValue)) (count : Option ℕ) → FitJson rows → depth (body_of names rows count) ≤ 128
 body_flat names rows None fit =
-    let flat = items_flat names rows fit in
-    let one : members_depth (json.member (codes "value") (json.array (items_of names rows)) json.no_members) ≤ 2 = max-le (omega (arith, flat)) (omega arith) in
+    let one : members_depth (json.member (codes "value") (json.array (items_of names rows)) json.no_members) ≤ 2 = max-le (omega (arith, items_flat names rows fit)) (omega arith) in
     omega (arith, one)
 body_flat names rows (Some n) fit =
-    let flat = items_flat names rows fit in
-    let one : members_depth (json.member (codes "value") (json.array (items_of names rows)) json.no_members) ≤ 2 = max-le (omega (arith, flat)) (omega arith) in
+    let one : members_depth (json.member (codes "value") (json.array (items_of names rows)) json.no_members) ≤ 2 = max-le (omega (arith, items_flat names rows fit)) (omega arith) in
     let two : members_depth (with_count (Some n) (json.member (codes "value") (json.array (items_of names rows)) json.no_members)) ≤ 2 = max-le (omega arith) one in
     omega (arith, two)
 
@@ -179,8 +175,7 @@ alone_is_read bytes tree is = text_is_read bytes tree (ap print (sym (append-nil
 pub value_is_read : (value : CellValue) → FitsJson value → document (printed_value true value) ≡ Some (json_of value)
 value_is_read value fits =
     let is = is_value value fits in
-    let flat = is.flat in
-    alone_is_read (printed_value true value) (json_of value) (is.printed []) is.numbers (omega (arith, flat))
+    alone_is_read (printed_value true value) (json_of value) (is.printed []) is.numbers (omega (arith, is.flat))
 
 pub row_is_read : (names : List (List ℕ)) (values : List CellValue) → AllByRecursion FitsJson values → document (json_row names values) ≡ Some (object_of names values)
 row_is_read names values fit =

@@ -1,5 +1,5 @@
 -- Bytes that are taken of replies that wait.
-use Rattle.std.proofs.Common.{◌≡◌, ℕ, ◌+◌, ◌-◌, ◌≤◌, List, [], ◌∷◌, ◌++◌, length, take, drop, sym, ap, ◌∙◌, arith, append_assoc, append-nil, length-drop}
+use Rattle.std.proofs.Common.{◌≡◌, ℕ, ◌+◌, ◌-◌, ◌≤◌, List, [], ◌∷◌, ◌++◌, length, take, drop, refl, sym, ap, ◌∙◌, arith, append_assoc, append-nil, length-drop}
 use Rattle.std.specs.List.{concat}
 use Rattle.std.proofs.lemmas.List.{drop-drop, drop-append-le, drop-take, drop_all, drop_at, length-take-le, nil_from_length, take-append-drop, take-append-le, take-take, take_all, take_at}
 use Rattle.std.proofs.lemmas.List.Folds.{concat-append}
@@ -8,12 +8,7 @@ use borrow.Rule.Slice.PartMut.{mid_of, post_of, put_mid}
 -- one more reply after those that wait
 pub give_one : (first reply now r : List ℕ) (others after : List (List ℕ)) → first ++ concat others ≡ now → after ≡ others ++ r ∷ [] → r ≡ reply
     → first ++ concat after ≡ now ++ reply
-give_one first reply now r others after v e q =
-    ap (λ (xs : List (List ℕ)). first ++ concat xs) e
-    ∙ ap (λ (xs : List ℕ). first ++ xs) (concat-append others (r ∷ []))
-    ∙ sym (append_assoc first (concat others) (r ++ []))
-    ∙ ap (λ (xs : List ℕ). xs ++ (r ++ [])) v
-    ∙ ap (λ (xs : List ℕ). now ++ xs) (append-nil r ∙ q)
+give_one first reply now r others after v e q = rw (e, concat-append, append-nil, ← append_assoc, v, q) refl
 
 -- `more` further bytes of the first reply are passed
 pub pass_more : (first rest old : List ℕ) (passed more : ℕ) → more ≤ length first → first ++ rest ≡ drop passed old
@@ -24,10 +19,7 @@ pass_more first rest old passed more h e = sym (drop-append-le more first rest h
 pub pass_next : (first reply mine old : List ℕ) (others after : List (List ℕ)) (passed more : ℕ) → length first ≡ 0 → first ++ concat others ≡ drop passed old
     → others ≡ reply ∷ after → more ≤ length reply → mine ≡ drop more reply → mine ++ concat after ≡ drop (passed + more) old
 pass_next first reply mine old others after passed more z e o h m =
-    ap (λ (xs : List ℕ). xs ++ concat after) m
-    ∙ pass_more reply (concat after) old passed more h (
-    sym (ap (λ (xs : List (List ℕ)). concat xs) o) ∙ sym (ap (λ (xs : List ℕ). xs ++ concat others) (nil_from_length first z)) ∙ e
-    )
+    rw m (pass_more reply (concat after) old passed more h (rw (o, nil_from_length first z) at e))
 
 front_more : (S : List ℕ) (c m : ℕ) → take c S ++ take m (drop c S) ≡ take (c + m) S
 front_more S c m =

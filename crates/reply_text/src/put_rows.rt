@@ -54,7 +54,7 @@ pub(crate) fn put_row<const JSON: bool>(
     let mut end = if JSON { put_byte(out, at, b'{') } else { at };
     for col in 0..rows.width() {
         end = put_head::<JSON>(out, end, heads[col].as_slice(), col);
-        end = put_cell::<JSON>(out, end, values.cell(col));
+        end = put_cell::<JSON>(out, end, &values, col);
     }
     if JSON {
         put_byte(out, end, b'}')

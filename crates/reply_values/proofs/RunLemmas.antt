@@ -124,3 +124,36 @@ plain_text false bytes is = by (needs_quotes bytes) is
     by : (t : Bool) → t ≡ false → print_field (cond t (quoted bytes) (unquoted bytes)) ≡ bytes
     by true e = cc
     by false e = refl
+
+-- ---- a text each byte of which stands for itself
+
+pub plain_quoted : (json : Bool) (bytes : List ℕ) → is_plain_text json bytes ≡ true → (json || (length bytes == 0)) ≡ true → printed_text json bytes ≡ 34 ∷ (bytes ++ 34 ∷ [])
+plain_quoted json bytes plain is =
+    quoted_text json bytes (by json (length bytes == 0) (list_any (needs_more false) bytes) is) ∙ ap (λ inside. 34 ∷ (inside ++ 34 ∷ [])) (all_plain json bytes plain)
+  where
+    by : (a empty some : Bool) → (a || empty) ≡ true → (a || (empty || some)) ≡ true
+    by true empty some is = refl
+    by false true some is = refl
+    by false false some is = cc
+
+pub plain_bare : (json : Bool) (bytes : List ℕ) → is_plain_text json bytes ≡ true → (json || (length bytes == 0)) ≡ false → printed_text json bytes ≡ bytes
+plain_bare true bytes plain is = cc
+plain_bare false bytes plain is = plain_text false bytes (by (length bytes == 0) (list_any (needs_more false) bytes) plain is)
+  where
+    by : (empty some : Bool) → not some ≡ true → empty ≡ false → (empty || some) ≡ false
+    by true some plain is = cc
+    by false true plain is = cc
+    by false false plain is = refl
+
+-- a text with another byte has double quotes
+pub other_quoted : (json : Bool) (bytes : List ℕ) → is_plain_text json bytes ≡ false → printed_text json bytes ≡ 34 ∷ (flat_map (printed_byte json) bytes ++ 34 ∷ [])
+other_quoted json bytes other = quoted_text json bytes (by json other)
+  where
+    from : (empty some : Bool) → not some ≡ false → (empty || some) ≡ true
+    from true some other = refl
+    from false true other = refl
+    from false false other = cc
+
+    by : (a : Bool) → is_plain_text a bytes ≡ false → (a || needs_quotes bytes) ≡ true
+    by true other = refl
+    by false other = from (length bytes == 0) (list_any (needs_more false) bytes) other

@@ -19,5 +19,5 @@ pub use put_numbers::{put_bool, put_date, put_decimal, put_integer};
 pub use room::{put_byte, put_piece};
 pub use runs::is_plain;
 pub use text_sizes::{plain_size, text_room, text_size};
-pub use texts::put_text;
+pub use texts::{put_plain, put_text};
 pub use value::{push_value, put_value, value_size};

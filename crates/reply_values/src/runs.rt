@@ -1,5 +1,5 @@
 //! How far the bytes of a text stand for themselves: in JSON none needs an escape (RFC 8259, section 7), in CSV none stands in double quotes alone (RFC 4180, section 2).
-ghost use Rattle.std.specs.Prelude.{◌≡◌, ◌||◌, ◌<◌, ◌≤◌, length};
+ghost use Rattle.std.specs.Prelude.{◌≡◌, ◌||◌, ◌==◌, ◌<◌, ◌≤◌, length};
 ghost use Rattle.std.specs.List.{position_or_len};
 ghost use Rattle.reply_values.specs.Printed.{is_plain_text, needs_more, needs_quotes};
 
@@ -70,10 +70,18 @@ pub fn is_plain<const JSON: bool>(text: &[u8]) -> bool
     run_len::<JSON>(text) == text.len()
 }
 
+/// Returns true if a text stands in double quotes whatever its bytes are: in JSON each does, in CSV the empty one.
+#[inline(always)]
+pub fn is_always_quoted<const JSON: bool>(text: &[u8]) -> bool
+    ensures { result ≡ (JSON || (length text.now == 0)) }
+{
+    JSON || text.is_empty()
+}
+
 /// Returns true if a text stands in double quotes, as each does in JSON.
 #[inline(always)]
 pub fn is_quoted<const JSON: bool>(text: &[u8]) -> bool
     ensures { result ≡ (JSON || needs_quotes text.now) }
 {
-    JSON || text.is_empty() || !is_plain::<false>(text)
+    is_always_quoted::<JSON>(text) || !is_plain::<false>(text)
 }

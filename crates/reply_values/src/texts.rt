@@ -1,12 +1,12 @@
 //! Texts in JSON (RFC 8259) or in CSV (RFC 4180, section 2), written into room that is there.
-ghost use Rattle.std.specs.Prelude.{◌≡◌, ◌+◌, ◌++◌, ◌<◌, ◌≤◌, length, take};
+ghost use Rattle.std.specs.Prelude.{◌≡◌, ◌+◌, ◌++◌, ◌<◌, ◌≤◌, IsTrue, length, take};
 ghost use Rattle.std.specs.Char.{digit_char};
 ghost use Rattle.std.specs.List.{flat_map};
-ghost use Rattle.reply_values.specs.Printed.{printed_byte, printed_text};
+ghost use Rattle.reply_values.specs.Printed.{is_plain_text, printed_byte, printed_text};
 ghost use Rattle.reply_values.specs.Size.{IsWrittenAt};
 
 use crate::room::{put_block, put_byte, put_piece};
-use crate::runs::{is_plain, is_quoted, run_len};
+use crate::runs::{is_always_quoted, is_plain, run_len};
 
 /// Returns a hexadecimal digit in lower case.
 fn hex_digit(n: u8) -> u8
@@ -60,31 +60,32 @@ fn put_runs<const JSON: bool>(out: &mut [u8], at: usize, text: &[u8]) -> usize
     }
 }
 
-/// Writes what stands between the double quotes of a text.
+/// Writes a text each byte of which stands for itself, and looks at none: in JSON in double quotes, in CSV if it is empty.
 #[inline(always)]
-fn put_inside<const JSON: bool>(out: &mut [u8], at: usize, text: &[u8]) -> usize
-    requires { at + length (flat_map (printed_byte JSON) text.now) ≤ length out.old }
-    ensures { IsWrittenAt out.old out.new at result (flat_map (printed_byte JSON) text.now) }
+pub fn put_plain<const JSON: bool>(out: &mut [u8], at: usize, text: &[u8]) -> usize
+    requires plain { IsTrue (is_plain_text JSON text.now) }
+    requires room { at + length (printed_text JSON text.now) ≤ length out.old }
+    ensures { IsWrittenAt out.old out.new at result (printed_text JSON text.now) }
 {
-    if is_plain::<JSON>(text) {
-        put_piece(out, at, text)
+    if is_always_quoted::<JSON>(text) {
+        let start = put_byte(out, at, b'"');
+        let end = put_piece(out, start, text);
+        put_byte(out, end, b'"')
     } else {
-        put_runs::<JSON>(out, at, text)
+        put_piece(out, at, text)
     }
 }
 
 /// Writes a text: in JSON in double quotes, in CSV if it needs them.
 #[inline(always)]
-#[tactic(auto, using(crate::proofs::RunLemmas::quoted_text, crate::proofs::RunLemmas::plain_text))]
 pub fn put_text<const JSON: bool>(out: &mut [u8], at: usize, text: &[u8]) -> usize
     requires { at + length (printed_text JSON text.now) ≤ length out.old }
     ensures { IsWrittenAt out.old out.new at result (printed_text JSON text.now) }
 {
-    if is_quoted::<JSON>(text) {
-        let start = put_byte(out, at, b'"');
-        let end = put_inside::<JSON>(out, start, text);
-        put_byte(out, end, b'"')
-    } else {
-        put_piece(out, at, text)
+    if is_plain::<JSON>(text) {
+        return put_plain::<JSON>(out, at, text);
     }
+    let start = put_byte(out, at, b'"');
+    let end = put_runs::<JSON>(out, start, text);
+    put_byte(out, end, b'"')
 }

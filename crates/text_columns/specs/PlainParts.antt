@@ -17,6 +17,10 @@ abbrev pub HaveKnownParts : List CellValue → Option PlainParts → Type 0
 HaveKnownParts cells None = Unit {0}
 HaveKnownParts cells (Some parts) = HavePlainParts cells parts
 
--- no byte of the texts of these rows stands for another
+-- no byte of a text stands for another
+abbrev pub IsPlainCell : Bool → CellValue → Type 0
+IsPlainCell json cell = (t : List ℕ) → cell ≡ text t → IsTrue (is_plain_text json t)
+
+-- no byte of the texts of these rows does
 abbrev pub ArePlainRows : Bool → List CellValue → ℕ → ℕ → Type 0
 ArePlainRows json cells first count = (row : ℕ) (t : List ℕ) → first ≤ row → row < first + count → slice_index_or cells row null ≡ text t → IsTrue (is_plain_text json t)

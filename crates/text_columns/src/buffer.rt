@@ -151,7 +151,7 @@ impl TextBuffer {
         Ok(())
     }
 
-    /// Returns the cells as a block, which takes over the memory of the texts, and empties the buffer. After an error the cells may be lost.
+    /// Returns the cells as a block and empties the buffer; a long block takes over its memory. After an error the cells may be lost.
     pub fn pack(&mut self, alloc: Global) -> Result<TextBlock, AllocError>
         ensures block { IfOk result (λ block. block ≡ self.old.cells) }
         ensures anew { OnOk result (self.new ≡ record self.old { cells = [] }) }

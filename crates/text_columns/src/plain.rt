@@ -47,6 +47,7 @@ impl PlainParts {
 
 impl<'t> TextColumn<'t> {
     /// Returns true if each byte of the texts of `count` rows from one on is known to stand for itself, in JSON or in CSV.
+    #[inline(always)]
     pub fn is_plain<const JSON: bool>(&self, first: usize, count: usize) -> bool
         requires within { first + count ≤ length self.now }
         requires few { count ≤ 64 }

@@ -5,7 +5,7 @@ ghost use Rattle.text_columns.specs.declared.content.TheConstants.{LANES};
 use crate::content::LANES;
 use std::alloc::AllocError;
 
-/// How many bytes at most are added to those that are needed. A block takes over the memory, so more of it would be written for nothing.
+/// How many bytes at most are added to those that are needed. A long block takes over the memory, so more of it would be written for nothing.
 const SPARE: usize = 0x1_0000;
 
 /// Makes room for `more` bytes from `at` on, and a few more.

@@ -2,7 +2,6 @@ use Rattle.std.proofs.Common.{◌<◌, ◌++◌, [], get_or, length, take, sym, 
 use Rattle.std.specs.List.{join_with_byte}
 use Rattle.std.proofs.lemmas.List.{get_or_default}
 use Rattle.cell_types.specs.Value.{null}
-use Rattle.row_columns.specs.Cell.{cell_view}
 use Rattle.reply_values.specs.Printed.{printed_value}
 use Rattle.reply_values.specs.Size.{IsWrittenAt}
 use Rattle.reply_text.specs.contracts.put_rows.put_row.{JSON-type}
@@ -28,14 +27,14 @@ put_head-end-requires-clause-room g c =
     let fits = member_fits json rows.names values c.loop-col.col (get_or values c.loop-col.col null) wide inside (get_or_default values c.loop-col.col _ null (omega (arith, wide, inside))) in
     omega (arith, c.requires.room, c.loop-col.invariant.long, c.loop-col.invariant.end, ap length head, fits)
 
-pub put_cell-end-requires : goal.put_cell-end-requires
-put_cell-end-requires g c =
+pub put_cell-end-requires-clause-room : goal.put_cell-end-requires-clause-room
+put_cell-end-requires-clause-room g c =
     let json = JSON-type (number g.row.JSON) in
     let rows = c.args.rows.now in
     let values = get_or rows.rows c.args.row [] in
     let wide = lent_width rows.rows c.args.row _ _ c.row_ref-values.ensures.row c.row_ref-values.ensures.width in
     let inside : c.loop-col.col < length rows.names = omega (arith, c.loop-col-test.true, c.width-col-end.ensures.names) in
-    let value = lent_value rows.rows c.args.row c.loop-col.col _ (cell_view c.cell.result) c.row_ref-values.ensures.row c.cell.ensures in
+    let value = lent_value rows.rows c.args.row c.loop-col.col _ c.row_ref-values.ensures.row (omega (arith, c.loop-col-test.true, c.width-col-end.ensures.names, c.row_ref-values.ensures.width)) in
     let head = head_is json rows.names c.args.heads.now c.loop-col.col _ _ c.requires.heads inside c.index-heads-col.is c.as_slice.ensures.value in
     omega (arith, c.requires.room, c.loop-col.invariant.long, c.loop-col.invariant.end, c.put_head-end.ensures.long, c.put_head-end.ensures.end, ap length head, member_fits json rows.names values c.loop-col.col _ wide inside value)
 
@@ -46,10 +45,10 @@ loop-col-preserved g c =
     let values = get_or rows.rows c.args.row [] in
     let wide = lent_width rows.rows c.args.row _ _ c.row_ref-values.ensures.row c.row_ref-values.ensures.width in
     let inside : c.loop-col.col < length rows.names = omega (arith, c.loop-col-test.true, c.width-col-end.ensures.names) in
-    let value = lent_value rows.rows c.args.row c.loop-col.col _ (cell_view c.cell.result) c.row_ref-values.ensures.row c.cell.ensures in
+    let value = lent_value rows.rows c.args.row c.loop-col.col _ c.row_ref-values.ensures.row (omega (arith, c.loop-col-test.true, c.width-col-end.ensures.names, c.row_ref-values.ensures.width)) in
     let head = head_is json rows.names c.args.heads.now c.loop-col.col _ _ c.requires.heads inside c.index-heads-col.is c.as_slice.ensures.value in
     let front = before_values json ++ join_with_byte 44 (take c.loop-col.col (members json rows.names values)) in
-    let text = printed_value json (cell_view c.cell.result) in
+    let text = printed_value json (get_or c.row_ref-values.result c.loop-col.col null) in
     let more = ap (λ h. (front ++ h) ++ text) head ∙ append_assoc front _ text ∙ append_assoc (before_values json) _ _
     ∙ ap (λ l. before_values json ++ l) (sym (member_more json rows.names values c.loop-col.col _ wide inside value)) in
     subst (IsWrittenAt c.args.out.now c.put_cell-end.new.out c.args.at c.put_cell-end.result) more

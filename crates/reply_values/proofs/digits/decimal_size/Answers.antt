@@ -1,5 +1,5 @@
 -- The sign, and the number of millionths without it.
-use Rattle.std.proofs.Common.{◌≡◌, pos, ◌<ℤ◌, ◌≤ℤ◌, arith, rules}
+use Rattle.std.proofs.Common.{pos, ◌<ℤ◌, ◌≤ℤ◌, arith, rules}
 use Rattle.std.proofs.lemmas.Int.{ints}
 use Rattle.reply_values.proofs.DecimalLemmas.{text-negative, text-other}
 use Rattle.reply_values.proofs.DigitLemmas.{short_millionths}

@@ -1,5 +1,5 @@
 -- The sign, and the number of millionths without it.
-use Rattle.std.proofs.Common.{◌≡◌, length, take, pos, ◌<ℤ◌, ◌≤ℤ◌, [], ◌∷◌, append_assoc, arith, rules, refl, ap, ◌∙◌}
+use Rattle.std.proofs.Common.{length, take, pos, ◌<ℤ◌, ◌≤ℤ◌, [], ◌∷◌, append_assoc, arith, rules, refl, ap, ◌∙◌}
 use Rattle.std.proofs.lemmas.Int.{ints}
 use Rattle.cell_types.specs.Decimal.{millionths_text}
 use Rattle.reply_values.proofs.DecimalLemmas.{text-negative, text-other}
