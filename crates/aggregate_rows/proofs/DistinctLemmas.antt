@@ -1,36 +1,26 @@
 -- Values are kept each once, and so is that of each number that has a mark.
-use Rattle.std.proofs.Common.{◌≡◌, ◌↔◌, ℕ, ℤ, pos, ◌+ℤ◌, Bool, true, false, cond, ◌||◌, IsTrue, List, [], ◌∷◌, ◌++◌, Some, map, filter, get_or, replicate, inl, inr, refl, sym, ap, subst, ◌∙◌}
+use Rattle.std.proofs.Common.{◌≡◌, ◌↔◌, ℕ, ℤ, pos, ◌+ℤ◌, Bool, true, false, cond, ◌||◌, IsTrue, List, [], ◌∷◌, ◌++◌, Some, map, filter, get_or, inl, inr, refl, sym, ap, subst, ◌∙◌}
 use Rattle.std.specs.Prelude.{slice_set}
 use Rattle.std.specs.List.{list_any}
 use Rattle.std.proofs.Math.Bool.{or-true}
-use Rattle.std.proofs.lemmas.Bool.{cases_eq, false≢true}
+use Rattle.std.proofs.lemmas.Bool.{cases_eq}
 use Rattle.std.proofs.lemmas.List.{get_or-set_other}
 use Rattle.std.proofs.lemmas.List.Folds.{list_any-append}
 use Rattle.cell_types.specs.Kind.{cell_of, typed_cell}
 use Rattle.cell_types.specs.Value.{CellValue, value_eq, value_view}
 use Rattle.cell_types.specs.declared.kind.NumberKind.{NumberKind}
-use Rattle.cell_types.specs.declared.kind.NumberKind.TheVariants.{Integer, Decimal, Boolean, Date}
+use Rattle.cell_types.specs.declared.kind.NumberKind.TheVariants.{Integer}
 use Rattle.query_meaning.specs.Apply.{is_value}
 use Rattle.aggregate_rows.specs.declared.distinct.Distinct.{Distinct}
-use Rattle.aggregate_rows.specs.Tallies.{HoldsDistinct, JoinsDistinct, JoinsValue}
-use Rattle.aggregate_rows.proofs.ListLemmas.{replicated}
+use Rattle.aggregate_rows.specs.Distinct.{HoldsDistinct, JoinsDistinct, JoinsValue}
 use Rattle.aggregate_rows.proofs.ValueLemmas.{seen_again}
 
 number_is_value : (kind : NumberKind) (n : ℤ) → is_value (typed_cell kind n) ≡ true
 number_is_value Integer n = refl
-number_is_value Decimal n = refl
-number_is_value Boolean n = refl
-number_is_value Date n = refl
+number_is_value kind n = refl
 
 among_more : (p : CellValue → Bool) (xs ys : List CellValue) → list_any p xs ≡ true → list_any p (xs ++ ys) ≡ true
 among_more p xs ys e = list_any-append p xs ys ∙ ap (λ b. b || list_any p ys) e
-
--- no number has a mark
-pub none_marked : (old new : Distinct) (count : ℕ) (values : List CellValue) → new.values ≡ old.values → new.marks.items ≡ replicate count false → HoldsDistinct old values → HoldsDistinct new values
-none_marked old new count values same none holds = record {
-  has = rw same holds.has;
-  marked = λ mark set. absurd (false≢true (sym (replicated count mark false) ∙ (rw none at set)));
-}
 
 -- a value joins
 pub value_joined : (old new : Distinct) (v : CellValue) → new.kind ≡ old.kind → new.span ≡ old.span → new.marks ≡ old.marks

@@ -2,23 +2,19 @@
 use Rattle.std.proofs.Common.{◌≡◌, ◌<◌, ◌≤◌, ℕ, false, Option, Some, None, List, [], get_or, length, inl, inr, refl, sym, ap, ◌∙◌, subst}
 use Rattle.std.specs.Prelude.{◌≢◌, unwrap_or, IsTrue}
 use Rattle.std.specs.declared.cmp.Ordering.{Ordering}
-use Rattle.std.specs.declared.cmp.Ordering.TheVariants.{Less, Equal, Greater}
+use Rattle.std.specs.declared.cmp.Ordering.TheVariants.{Equal}
 use Rattle.std.specs.Ordering.{is_le, is_lt}
 use Rattle.std.proofs.lemmas.Bool.{cases_lt, false≢true}
 use Rattle.std.proofs.lemmas.List.{get_or-map, get_or_default, get_or_past, length-map}
 use Rattle.block_summary.specs.Ranges.{column_of, is_null, AreAllNull, HasGreatest, HasLeast, IsGreatest, IsLeast}
-use Rattle.cell_types.specs.Value.{CellValue, null, integer, text, boolean, date, decimal, value_cmp}
+use Rattle.cell_types.specs.Value.{CellValue, null, value_cmp}
 use Rattle.odata_query.specs.declared.aggregate.Aggregate.TheVariants.{Max, Min}
 use Rattle.query_meaning.specs.Apply.{computed_value}
 use Rattle.query_meaning.specs.Laws.{ExtremesAreValues, StandsInColumn}
 
 is_some : (v : CellValue) → v ≢ null → is_null v ≡ false
 is_some null other = absurd (other refl)
-is_some (integer n) other = refl
-is_some (text t) other = refl
-is_some (boolean b) other = refl
-is_some (date y m d) other = refl
-is_some (decimal n) other = refl
+is_some v other = refl
 
 is_other : (v : CellValue) → is_null v ≡ false → v ≢ null
 is_other v some is = false≢true (sym some ∙ ap is_null is)
@@ -52,9 +48,8 @@ module _ (place : ℕ) (rows : List (List CellValue)) where
 
   module _ (law : ExtremesAreValues) (same : (a b : CellValue) → value_cmp a b ≡ Equal → a ≡ b) where
     not_apart : (a b : CellValue) (o : Ordering) → value_cmp a b ≡ o → IsTrue (is_le o) → is_lt o ≡ false → a ≡ b
-    not_apart a b Less e most least = absurd (false≢true (sym least))
     not_apart a b Equal e most least = same a b e
-    not_apart a b Greater e most least = absurd (false≢true most)
+    not_apart a b o e most least = absurd (cc (most, least))
 
     least_is : (v : CellValue) → IsLeast v (column_of rows place) → v ≡ computed_value rows (Min place)
     least_is v is =

@@ -25,8 +25,7 @@ module _ {X : Type 0} (wins : X → X → Bool) (trans : (u v w : X) → wins w 
 
 lt_less : (r : Ordering) → is_lt r ≡ true → r ≡ Less
 lt_less Less e = refl
-lt_less Equal e = absurd (false≢true e)
-lt_less Greater e = absurd (false≢true e)
+lt_less r e = absurd (false≢true e)
 
 module _ {X : Type 0} (cmp : X → X → Ordering) (total : IsTotalOrder cmp) where
   pub below_trans : (x y z : X) → is_lt (cmp x y) ≡ true → is_lt (cmp y z) ≡ true → is_lt (cmp x z) ≡ true

@@ -9,7 +9,7 @@ use Rattle.std.proofs.lemmas.List.Elements.{All-from_recursion, filter_map-appen
 use Rattle.cell_types.specs.Value.{CellValue}
 use Rattle.row_eval.specs.Row.{cell, decimal_in, integer_in}
 use Rattle.odata_query.specs.declared.aggregate.Aggregate.{Aggregate}
-use Rattle.odata_query.specs.declared.aggregate.Aggregate.TheVariants.{Count, SumOfIntegers, SumOfDecimals, Min, Max, CountDistinct}
+use Rattle.odata_query.specs.declared.aggregate.Aggregate.TheVariants.{Count, SumOfIntegers, SumOfDecimals}
 use Rattle.query_meaning.specs.Fitting.{AreSummable}
 use Rattle.cell_types.proofs.ListLaws.{AllByRecursion-weaker, length-filter-le}
 use Rattle.aggregate_rows.specs.Tallies.{FitsAll}
@@ -60,9 +60,7 @@ module _ (width : ℕ) (rows fewer : List (List CellValue)) (less : length fewer
   fits_fewer Count fit = omega (arith, fit, less)
   fits_fewer (SumOfIntegers place) fit = (fit.0, fewer_fit (λ row. cell integer_in row place) rows fewer less (some (λ row. cell integer_in row place)) fit.1)
   fits_fewer (SumOfDecimals place) fit = (fit.0, fewer_fit (λ row. cell decimal_in row place) rows fewer less (some (λ row. cell decimal_in row place)) fit.1)
-  fits_fewer (Min place) fit = fit
-  fits_fewer (Max place) fit = fit
-  fits_fewer (CountDistinct place) fit = fit
+  fits_fewer a fit = fit
 
 pub all_fit_kept : (width : ℕ) (keeps : List CellValue → Bool) (rows : List (List CellValue)) (aggregates : List Aggregate) → AllByRecursion (FitsAll width rows) aggregates
     → AllByRecursion (FitsAll width (filter keeps rows)) aggregates

@@ -16,19 +16,19 @@ module _ {X : Type 0} (eq : X → X → Bool) (is : (a b : X) → eq a b ≡ tru
   any_filter : (x y : X) (zs : List X) → eq x y ≡ false → list_any (eq y) (filter (λ z. not (eq x z)) zs) ≡ list_any (eq y) zs
   any_filter x y [] e = refl
   any_filter x y (z ∷ zs) e = elim (cases_Bool (eq x z)) [
-    | inl t ↦ (let other : eq y z ≡ false = turned eq is self z y (subst (λ w. eq w y ≡ false) (is x z t) e) in rw (t, other) (any_filter x y zs e))
+    | inl t ↦ rw (t, turned eq is self z y (rw (is x z t) at e)) (any_filter x y zs e)
     | inr f ↦ rw (f, any_filter x y zs e) refl
   ]
 
   -- what is dropped stays dropped
   past : (x y : X) (b : Bool) (zs : List X) → eq x y ≡ true → filter (λ z. not (eq x z)) (cond b zs (zs ++ y ∷ [])) ≡ filter (λ z. not (eq x z)) zs
   past x y true zs e = refl
-  past x y false zs e = filter-append (λ z. not (eq x z)) zs (y ∷ []) ∙ (let none : filter (λ z. not (eq x z)) (y ∷ []) ≡ [] = rw e refl in ap (λ ys. filter (λ z. not (eq x z)) zs ++ ys) none) ∙ append-nil (filter (λ z. not (eq x z)) zs)
+  past x y false zs e = rw (filter-append (λ z. not (eq x z)) zs (y ∷ []), e) (append-nil (filter (λ z. not (eq x z)) zs))
 
   kept : (x y : X) (b : Bool) (zs : List X) → eq x y ≡ false
       → filter (λ z. not (eq x z)) (cond b zs (zs ++ y ∷ [])) ≡ cond b (filter (λ z. not (eq x z)) zs) (filter (λ z. not (eq x z)) zs ++ y ∷ [])
   kept x y true zs e = refl
-  kept x y false zs e = filter-append (λ z. not (eq x z)) zs (y ∷ []) ∙ (let one : filter (λ z. not (eq x z)) (y ∷ []) ≡ y ∷ [] = rw e refl in ap (λ ys. filter (λ z. not (eq x z)) zs ++ ys) one)
+  kept x y false zs e = rw (filter-append (λ z. not (eq x z)) zs (y ∷ []), e) refl
 
   cons_cond : (x y : X) (b : Bool) (zs : List X) → x ∷ cond b zs (zs ++ y ∷ []) ≡ cond b (x ∷ zs) ((x ∷ zs) ++ y ∷ [])
   cons_cond x y true zs = refl
@@ -43,11 +43,8 @@ module _ {X : Type 0} (eq : X → X → Bool) (is : (a b : X) → eq a b ≡ tru
       let b = list_any (eq y) seen in
       ap (λ zs. x ∷ filter (λ z. not (eq x z)) zs) (seen_more xs y)
       ∙ elim (cases_Bool (eq x y)) as (λ _. x ∷ filter (λ z. not (eq x z)) (cond b seen (seen ++ y ∷ [])) ≡ cond (eq y x || list_any (eq y) others) (x ∷ others) ((x ∷ others) ++ y ∷ [])) [
-        | inl t ↦ (let same : x ≡ y = is x y t in let back : eq y x ≡ true = subst (λ z. eq y z ≡ true) (sym same) (self y) in
-            ap (λ zs. x ∷ zs) (past x y b seen t) ∙ sym (ap (λ c. cond (c || list_any (eq y) others) (x ∷ others) ((x ∷ others) ++ y ∷ [])) back))
-        | inr f ↦ ap (λ zs. x ∷ zs) (kept x y b seen f) ∙ cons_cond x y b others
-            ∙ sym (ap (λ c. cond (c || list_any (eq y) others) (x ∷ others) ((x ∷ others) ++ y ∷ [])) (turned eq is self x y f)
-            ∙ ap (λ c. cond c (x ∷ others) ((x ∷ others) ++ y ∷ [])) (any_filter x y seen f))
+        | inl t ↦ rw (past x y b seen t, is x y t, self y) refl
+        | inr f ↦ rw (kept x y b seen f, turned eq is self x y f, any_filter x y seen f) (cons_cond x y b others)
       ]
 
   -- what is not seen is not there
@@ -55,9 +52,7 @@ module _ {X : Type 0} (eq : X → X → Bool) (is : (a b : X) → eq a b ≡ tru
   unseen [] y e = refl
   unseen (x ∷ xs) y e =
       let parts = or_parts (eq y x) (list_any (eq y) (filter (λ z. not (eq x z)) (first_seen eq xs))) e in
-      let head : eq y x ≡ false = parts.0 in
-      let rest : list_any (eq y) xs ≡ false = unseen xs y (sym (any_filter x y (first_seen eq xs) (turned eq is self y x head)) ∙ parts.1) in
-      rw (head, rest) refl
+      rw (parts.0, unseen xs y (sym (any_filter x y (first_seen eq xs) (turned eq is self y x parts.0)) ∙ parts.1)) refl
 
 module _ (equal : (a b : CellValue) → IsTrue (value_eq a b) ↔ (a ≡ b)) (places : List ℕ) where
   decides : (a b : List CellValue) → (same_values a b ≡ true → a ≡ b) × (a ≡ b → same_values a b ≡ true)
@@ -73,8 +68,7 @@ module _ (equal : (a b : CellValue) → IsTrue (value_eq a b) ↔ (a ≡ b)) (pl
   no_member [] v e = refl
   no_member (r ∷ rs) v e =
       let parts = or_parts (same_values v (values_at places r)) (list_any (same_values v) (map (values_at places) rs)) e in
-      let head : same_values v (values_at places r) ≡ false = parts.0 in
-      rw head (no_member rs v parts.1)
+      rw parts.0 (no_member rs v parts.1)
 
   -- a key that is none of theirs has no rows
   pub no_rows : (rs : List (List CellValue)) (v : List CellValue) → list_any (same_values v) (group_values places rs) ≡ false → rows_of_group places rs v ≡ []
@@ -83,15 +77,10 @@ module _ (equal : (a b : CellValue) → IsTrue (value_eq a b) ↔ (a ≡ b)) (pl
   -- one row more, with these values, after some rows
   module _ (some : List (List CellValue)) (row : List CellValue) where
     pub joins : (v : List CellValue) → same_values v (values_at places row) ≡ true → rows_of_group places (some ++ row ∷ []) v ≡ rows_of_group places some v ++ row ∷ []
-    joins v e =
-        filter-append (λ r. same_values v (values_at places r)) some (row ∷ [])
-        ∙ (let one : filter (λ r. same_values v (values_at places r)) (row ∷ []) ≡ row ∷ [] = rw e refl in ap (λ rs. rows_of_group places some v ++ rs) one)
+    joins v e = rw (filter-append (λ r. same_values v (values_at places r)) some (row ∷ []), e) refl
 
     stays : (v : List CellValue) → same_values v (values_at places row) ≡ false → rows_of_group places (some ++ row ∷ []) v ≡ rows_of_group places some v
-    stays v e =
-        filter-append (λ r. same_values v (values_at places r)) some (row ∷ [])
-        ∙ (let none : filter (λ r. same_values v (values_at places r)) (row ∷ []) ≡ [] = rw e refl in ap (λ rs. rows_of_group places some v ++ rs) none)
-        ∙ append-nil (rows_of_group places some v)
+    stays v e = rw (filter-append (λ r. same_values v (values_at places r)) some (row ∷ []), e) (append-nil (rows_of_group places some v))
 
     all_stay : (keys : List (List CellValue)) → AllByRecursion (λ v. same_values v (values_at places row) ≡ false) keys
         → map (rows_of_group places some) keys ≡ map (rows_of_group places (some ++ row ∷ [])) keys
@@ -101,8 +90,7 @@ module _ (equal : (a b : CellValue) → IsTrue (value_eq a b) ↔ (a ≡ b)) (pl
     others : (v : List CellValue) (keys : List (List CellValue)) → v ≡ values_at places row → AllByRecursion (λ w. same_values v w ≡ false) keys
         → AllByRecursion (λ w. same_values w (values_at places row) ≡ false) keys
     others v [] e a = tt
-    others v (w ∷ ws) e a =
-        (turned same_values same_is same_self (values_at places row) w (subst (λ z. same_values z w ≡ false) e a.0), others v ws e a.1)
+    others v (w ∷ ws) e a = (turned same_values same_is same_self (values_at places row) w (rw e at a.0), others v ws e a.1)
 
     -- the row joins the group of its values
     module _ {T : Type 0} (R : List (List CellValue) → T → Type 0) where

@@ -12,7 +12,7 @@ use Rattle.block_summary.specs.Types.{cells_of_kind, numbers_of}
 use Rattle.cell_types.specs.declared.kind.NumberKind.{NumberKind}
 use Rattle.cell_types.specs.declared.kind.NumberKind.TheVariants.{Integer, Decimal, Boolean, Date}
 use Rattle.cell_types.specs.Value.{CellValue, null}
-use Rattle.query_meaning.specs.Apply.{integer_sum, value_at}
+use Rattle.query_meaning.specs.Apply.{integer_sum}
 use Rattle.row_columns.specs.Picked.{numbered}
 use Rattle.row_eval.specs.Row.{cell, number_in}
 use Rattle.row_codes.specs.Kept.{IsKeptAs}
@@ -27,18 +27,15 @@ null_more v vs = sum_by-cons (λ x. cond (is_null x) 1 0) v vs
 -- the number of a kind in the cell that a number stands for is the number of that cell
 number_read : (kind : NumberKind) (o : Option ℤ) → number_in kind (cell_of kind o) ≡ number_of (cell_of kind o)
 number_read Integer None = refl
-number_read Decimal None = refl
-number_read Boolean None = refl
-number_read Date None = refl
 number_read Integer (Some n) = refl
+number_read kind None = refl
 number_read Decimal (Some n) = refl
 number_read Boolean (Some n) = refl
 number_read Date (Some n) = refl
 
 cells_read : (kind : NumberKind) (ns : List (Option ℤ)) → filter_map (number_in kind) (cells_of_kind kind ns) ≡ filter_map number_of (cells_of_kind kind ns)
 cells_read kind [] = refl
-cells_read kind (n ∷ ns) =
-    ap (λ o. cons_option o (filter_map (number_in kind) (cells_of_kind kind ns))) (number_read kind n) ∙ ap (cons_option (number_of (cell_of kind n))) (cells_read kind ns)
+cells_read kind (n ∷ ns) = rw (number_read kind n, cells_read kind ns) refl
 
 sum_more : (o : Option ℤ) (ns : List (Option ℤ)) (xs : List ℤ) → number_sum ns ≡ integer_sum xs → number_sum (o ∷ ns) ≡ integer_sum (cons_option o xs)
 sum_more None ns xs e = e
@@ -60,24 +57,16 @@ none_left : (cells : List CellValue) → count_by is_null cells ≡ length cells
 none_left [] e = refl
 none_left (v ∷ vs) e =
     let all = all_counted (is_null v) (count_by is_null vs) (length vs) (count_by-le-length is_null vs) (sym (null_more v vs) ∙ omega (arith, e)) in
-    ap (λ o. cons_option o (filter_map number_of vs)) (null_has_none v all.0) ∙ none_left vs all.1
+    rw (null_has_none v all.0) (none_left vs all.1)
 
 some_number : (kind : NumberKind) (n : ℤ) → (m : ℤ) × (number_of (typed_cell kind n) ≡ Some m)
 some_number Integer n = (_, refl)
-some_number Decimal n = (_, refl)
-some_number Boolean n = (_, refl)
-some_number Date n = (_, refl)
+some_number kind n = (_, refl)
 
 all_null : (kind : NumberKind) (ns : List (Option ℤ)) → filter_map number_of (cells_of_kind kind ns) ≡ [] → count_by is_null (cells_of_kind kind ns) ≡ length ns
 all_null kind [] e = refl
-all_null kind (None ∷ ns) e =
-    let more = null_more null (cells_of_kind kind ns) in
-    let rest = all_null kind ns e in
-    omega (arith, more, rest)
-all_null kind (Some n ∷ ns) e =
-    let number = some_number kind n in
-    let none : number.0 ∷ filter_map number_of (cells_of_kind kind ns) ≡ [] = ap (λ o. cons_option o (filter_map number_of (cells_of_kind kind ns))) (sym number.1) ∙ e in
-    absurd (cc)
+all_null kind (None ∷ ns) e = omega (arith, null_more null (cells_of_kind kind ns), all_null kind ns e)
+all_null kind (Some n ∷ ns) e = let number = some_number kind n in absurd (cc (rw number.1 at e))
 
 some_sum : (ns : List ℤ) → (ns ≡ [] → ⊥) → sum_of ns ≡ Some (integer_sum ns)
 some_sum [] some = absurd (some refl)
@@ -87,17 +76,13 @@ some_sum (n ∷ ns) some = refl
 
 cell_read : (kind : NumberKind) (row : List CellValue) (place : ℕ) → cell (number_in kind) row place ≡ number_in kind (get_or row place null)
 cell_read Integer [] place = refl
-cell_read Decimal [] place = refl
-cell_read Boolean [] place = refl
-cell_read Date [] place = refl
+cell_read kind [] place = refl
 cell_read kind (v ∷ row) zero = refl
 cell_read kind (v ∷ row) (suc place) = cell_read kind row place
 
 column_read : (kind : NumberKind) (place : ℕ) (rows : List (List CellValue)) → numbers_in kind place rows ≡ filter_map (number_in kind) (column_of rows place)
 column_read kind place [] = refl
-column_read kind place (row ∷ rows) =
-    ap (λ o. cons_option o (numbers_in kind place rows)) (cell_read kind row place)
-    ∙ ap (cons_option (number_in kind (get_or row place null))) (column_read kind place rows)
+column_read kind place (row ∷ rows) = rw (cell_read kind row place, column_read kind place rows) refl
 
 -- ---- the sum of a whole column
 
@@ -129,6 +114,4 @@ module _ (kind : NumberKind) (place : ℕ) (rows : List (List CellValue)) (cells
 
   pub part_numbers : (numbers : List ℕ) → numbers_in kind place (numbered numbers rows) ≡ numbers_at cells numbers
   part_numbers [] = refl
-  part_numbers (n ∷ numbers) =
-      ap (λ o. cons_option o (numbers_in kind place (numbered numbers rows))) (number_here n)
-      ∙ ap (cons_option (get_or (numbers_of cells) n None)) (part_numbers numbers)
+  part_numbers (n ∷ numbers) = rw (number_here n, part_numbers numbers) refl

@@ -11,7 +11,11 @@ pub mod GroupLemmas
 pub mod GatheredLemmas
 pub mod JoinLemmas
 pub mod PartLemmas
-mod ResultLemmas
+pub mod ResultLemmas
+pub mod TableLemmas
+pub mod PutLemmas
+pub mod InsideLemmas
 pub mod BegunLemmas
 pub mod KeptLemmas
 pub mod EndLemmas
+pub mod PushLemmas

@@ -62,7 +62,4 @@ module _ (named once : List Aggregate) (shown : List ℕ) (asked : Aggregate) (a
 pub next_named : (aggregates : List NamedAggregate) (i : ℕ) (item : NamedAggregate) → i < length aggregates → item ≡ get_or aggregates i item
     → plain_aggregates (map named_view (take (i + 1) aggregates)) ≡ plain_aggregates (map named_view (take i aggregates)) ++ item.aggregate ∷ []
 next_named aggregates i item inside is =
-    ap (λ ns. plain_aggregates (map named_view ns)) (take_more aggregates i item inside)
-    ∙ ap plain_aggregates (map-append named_view (take i aggregates) (get_or aggregates i item ∷ []))
-    ∙ map-append (λ a. a.aggregate) (map named_view (take i aggregates)) (named_view (get_or aggregates i item) ∷ [])
-    ∙ ap (λ (n : NamedAggregate). plain_aggregates (map named_view (take i aggregates)) ++ n.aggregate ∷ []) (sym is)
+    rw (take_more aggregates i item inside, ← is) (simp map-append)

@@ -1,5 +1,5 @@
 -- Rows by their groups.
-use Rattle.std.proofs.Common.{◌≡◌, ℕ, zero, suc, ◌<◌, ◌+◌, Bool, true, false, cond, List, [], ◌∷◌, ◌++◌, Vec, Global, length, take, get_or, inl, inr, refl, sym, ap, subst, ◌∙◌, arith}
+use Rattle.std.proofs.Common.{◌≡◌, ℕ, zero, suc, ◌<◌, ◌+◌, true, false, cond, List, [], ◌∷◌, ◌++◌, Vec, Global, length, take, get_or, inl, inr, refl, sym, ap, subst, ◌∙◌, arith}
 use Rattle.std.specs.Prelude.{nat_eq, slice_get, slice_set}
 use Rattle.std.specs.List.{All, AllByRecursion, IsDistinct}
 use Rattle.std.proofs.lemmas.Bool.{cases_Bool, cases_order, false≢true}
@@ -11,13 +11,12 @@ use Rattle.std.proofs.lemmas.Option.{get_or_from_slice_get}
 use Rattle.cell_types.specs.Value.{CellValue}
 use Rattle.query_meaning.specs.Apply.{rows_of_group, same_values, values_at}
 use Rattle.row_columns.specs.Picked.{numbered}
-use Rattle.aggregate_rows.specs.declared.groups.Groups.{Groups}
+use Rattle.aggregate_rows.specs.Table.{GroupOf, GroupsOf}
 use Rattle.aggregate_rows.specs.Gathered.{keys_held, JoinsGroup, MayJoinGroup}
 use Rattle.aggregate_rows.specs.Parts.{numbers_of_group, AreGroupsOf, ArePartsFrom, ArePartRows}
 use Rattle.aggregate_rows.proofs.GatheredLemmas.{AreOneType}
 use Rattle.aggregate_rows.proofs.GroupLemmas.{same_is, same_self}
 use Rattle.aggregate_rows.proofs.JoinLemmas.{group_at}
-use Rattle.aggregate_rows.specs.declared.group_row.GroupRow.{GroupRow}
 use Rattle.aggregate_rows.specs.Tallies.{FitsAll, HasResults}
 use Rattle.odata_query.specs.declared.aggregate.Aggregate.{Aggregate}
 use Rattle.row_codes.proofs.ListLaws.{zip_at}
@@ -28,15 +27,8 @@ use Rattle.aggregate_rows.proofs.ListLemmas.{from_long, next_by, one_more_by, zi
 numbers_more : (group : ℕ) (ns gs : List ℕ) (n g : ℕ) → length ns ≡ length gs
     → numbers_of_group group (ns ++ n ∷ []) (gs ++ g ∷ []) ≡ numbers_of_group group ns gs ++ cond (nat_eq g group) (n ∷ []) []
 numbers_more group [] [] n g e = refl
-numbers_more group [] (h ∷ gs) n g e = absurd (omega arith)
-numbers_more group (m ∷ ns) [] n g e = absurd (omega arith)
-numbers_more group (m ∷ ns) (h ∷ gs) n g e = by (nat_eq h group) (numbers_more group ns gs n g (omega arith))
-  where
-    by : (b : Bool) → numbers_of_group group (ns ++ n ∷ []) (gs ++ g ∷ []) ≡ numbers_of_group group ns gs ++ cond (nat_eq g group) (n ∷ []) []
-        → cond b (m ∷ numbers_of_group group (ns ++ n ∷ []) (gs ++ g ∷ [])) (numbers_of_group group (ns ++ n ∷ []) (gs ++ g ∷ []))
-        ≡ cond b (m ∷ numbers_of_group group ns gs) (numbers_of_group group ns gs) ++ cond (nat_eq g group) (n ∷ []) []
-    by true ih = ap (λ xs. m ∷ xs) ih
-    by false ih = ih
+numbers_more group (m ∷ ns) (h ∷ gs) n g e = rw (numbers_more group ns gs n g (omega arith)) (elim (cases_Bool (nat_eq h group)) [ inl t ↦ rw t refl | inr f ↦ rw f refl ])
+numbers_more group ns gs n g e = absurd (omega arith)
 
 one_more : (group : ℕ) (ns gs : List ℕ) (n g : ℕ) → length ns ≡ length gs → g ≡ group → numbers_of_group group (ns ++ n ∷ []) (gs ++ g ∷ []) ≡ numbers_of_group group ns gs ++ n ∷ []
 one_more group ns gs n g e is =
@@ -82,13 +74,9 @@ parts_none start (part ∷ parts) none = (none.0, parts_none (start + 1) parts n
 -- ---- within
 
 within_group : (P : ℕ → Type 0) (group : ℕ) (ns gs : List ℕ) → AllByRecursion P ns → AllByRecursion P (numbers_of_group group ns gs)
-within_group P group [] gs all = tt
-within_group P group (n ∷ ns) [] all = tt
-within_group P group (n ∷ ns) (g ∷ gs) all = by (nat_eq g group) (within_group P group ns gs all.1)
-  where
-    by : (b : Bool) → AllByRecursion P (numbers_of_group group ns gs) → AllByRecursion P (cond b (n ∷ numbers_of_group group ns gs) (numbers_of_group group ns gs))
-    by true rest = (all.0, rest)
-    by false rest = rest
+within_group P group (n ∷ ns) (g ∷ gs) all =
+    let rest = within_group P group ns gs all.1 in elim (cases_Bool (nat_eq g group)) [ inl t ↦ rw t (all.0, rest) | inr f ↦ rw f rest ]
+within_group P group ns gs all = tt
 
 pub within_parts : (P : ℕ → Type 0) (start : ℕ) (ns gs : List ℕ) (parts : List (Vec ℕ Global)) → ArePartsFrom start ns gs parts → AllByRecursion P ns
     → AllByRecursion (λ (part : Vec ℕ Global). All P part.items) parts
@@ -107,62 +95,58 @@ module _ (equal : AreOneType) (keys : List (List CellValue)) (distinct : IsDisti
   distinct_at i j h k e =
       elim (cases_order i j) [ inl same ↦ same | inr (inl less) ↦ absurd (apart i j less k e) | inr (inr more) ↦ absurd (apart j i more h (sym e)) ]
 
-module _ (equal : AreOneType) (places : List ℕ) (groups : Groups) (distinct : IsDistinct same_values (keys_held groups)) (rows : List (List CellValue)) where
+module _ (equal : AreOneType) (places : List ℕ) (groups : GroupsOf) (distinct : IsDistinct same_values (keys_held groups)) (rows : List (List CellValue)) where
   group_rows : (g : ℕ) (ns gs : List ℕ) → g < length (keys_held groups) → AreGroupsOf groups places (numbered ns rows) gs
       → numbered (numbers_of_group g ns gs) rows ≡ rows_of_group places (numbered ns rows) (get_or (keys_held groups) g [])
   group_rows g [] [] inside are = refl
-  group_rows g [] (h ∷ gs) inside are = absurd are
-  group_rows g (n ∷ ns) [] inside are = absurd are
   group_rows g (n ∷ ns) (h ∷ gs) inside are =
       let key = get_or (keys_held groups) g [] in
       let row = get_or rows n [] in
       let rest = group_rows g ns gs inside are.1 in
       elim (cases_Bool (nat_eq h g)) [
         | inl t ↦ (let same : h ≡ g = grind (arith, nat_tests) in
-            let among : same_values key (values_at places row) ≡ true =
-            subst (λ v. same_values key v ≡ true) (sym (ap (λ i. get_or (keys_held groups) i []) same) ∙ are.0.1) (same_self equal places key) in
-            rw (t, among) (ap (λ rs. row ∷ rs) rest))
+            rw (t, ← are.0.1, same, same_self equal places key) (ap (λ rs. row ∷ rs) rest))
         | inr f ↦ (elim (cases_Bool (same_values key (values_at places row))) [
           | inl s ↦ (let same : g ≡ h = distinct_at equal (keys_held groups) distinct g h inside are.0.0 (same_is equal places key (values_at places row) s ∙ sym are.0.1) in
               let is : nat_eq h g ≡ true = grind (arith, nat_tests) in absurd (false≢true (sym f ∙ is)))
           | inr other ↦ rw (f, other) rest
         ])
       ]
+  group_rows g ns gs inside are = absurd are
 
   pub part_rows : (start : ℕ) (ns gs : List ℕ) (more : List (List CellValue)) (keys : List (List CellValue)) (parts : List (Vec ℕ Global)) → numbered ns rows ≡ more → AreGroupsOf groups places more gs
       → length parts ≡ length keys → ((j g : ℕ) → g ≡ start + j → j < length keys → (g < length (keys_held groups)) × (get_or (keys_held groups) g [] ≡ get_or keys j []))
       → ArePartsFrom start ns gs parts → ArePartRows rows (rows_of_group places more) keys parts
   part_rows start ns gs more [] [] is found long at are = tt
-  part_rows start ns gs more [] (part ∷ parts) is found long at are = absurd (omega arith)
-  part_rows start ns gs more (key ∷ keys) [] is found long at are = absurd (omega arith)
   part_rows start ns gs more (key ∷ keys) (part ∷ parts) is found long at are =
       let here = at 0 start (omega arith) (omega arith) in (
         ap (λ (xs : List ℕ). numbered xs rows) are.0 ∙ group_rows start ns gs here.0 (subst (λ rs. AreGroupsOf groups places rs gs) (sym is) found)
             ∙ ap (λ rs. rows_of_group places rs (get_or (keys_held groups) start [])) is ∙ ap (rows_of_group places more) here.1,
         part_rows (start + 1) ns gs more keys parts is found (omega arith) (λ j g e less. at (suc j) g (omega (arith, e)) (omega arith)) are.1,
       )
+  part_rows start ns gs more keys parts is found long at are = absurd (omega arith)
 
 -- ---- the part of the next group joins its rows
 
 module _ (aggregates : List Aggregate) (rows : List (List CellValue)) (parts : List (Vec ℕ Global)) (keys : List (List CellValue)) (before more : List CellValue → List (List CellValue))
-    (groups : List GroupRow) (i : ℕ) (part : Vec ℕ Global) (inside : i < length parts) (at : part ≡ get_or parts i part) (parts_are : ArePartRows rows more keys parts)
-    (zip : ZipFrom (λ key (ts : GroupRow). HasResults aggregates (before key ++ more key) ts) (λ key ts. HasResults aggregates (before key) ts) i keys groups) where
+    (groups : List GroupOf) (i : ℕ) (part : Vec ℕ Global) (inside : i < length parts) (at : part ≡ get_or parts i part) (parts_are : ArePartRows rows more keys parts)
+    (zip : ZipFrom (λ key (ts : GroupOf). HasResults aggregates (before key ++ more key) ts) (λ key ts. HasResults aggregates (before key) ts) i keys groups) where
   there : i < length keys
   there = omega (arith, inside, zip_long (λ key (p : Vec ℕ Global). numbered p.items rows ≡ more key) keys parts parts_are)
 
   group_there : i < length groups
   group_there =
-      omega (arith, there, from_long (λ key (ts : GroupRow). HasResults aggregates (before key ++ more key) ts) (λ key ts. HasResults aggregates (before key) ts) keys groups i zip)
+      omega (arith, there, from_long (λ key (ts : GroupOf). HasResults aggregates (before key ++ more key) ts) (λ key ts. HasResults aggregates (before key) ts) keys groups i zip)
 
   come : numbered part.items rows ≡ more (get_or keys i [])
   come = ap (λ (p : Vec ℕ Global). numbered p.items rows) at ∙ zip_at (λ key (p : Vec ℕ Global). numbered p.items rows ≡ more key) keys parts i [] part parts_are inside
 
-  its : (old : GroupRow) → old ≡ get_or groups i old → HasResults aggregates (before (get_or keys i [])) old
+  its : (old : GroupOf) → old ≡ get_or groups i old → HasResults aggregates (before (get_or keys i [])) old
   its old is =
-      subst (λ (ts : GroupRow). HasResults aggregates (before (get_or keys i [])) ts) (sym is)
-      (next_by (λ key (ts : GroupRow). HasResults aggregates (before key ++ more key) ts) (λ key ts. HasResults aggregates (before key) ts) keys groups i [] old zip there)
+      subst (λ (ts : GroupOf). HasResults aggregates (before (get_or keys i [])) ts) (sym is)
+      (next_by (λ key (ts : GroupOf). HasResults aggregates (before key ++ more key) ts) (λ key ts. HasResults aggregates (before key) ts) keys groups i [] old zip there)
 
-  pub part_may_join : (mid : Groups) (width : ℕ) → groups ≡ mid.rows.keys → AllByRecursion (λ key. AllByRecursion (FitsAll width (before key ++ more key)) aggregates) keys
+  pub part_may_join : (mid : GroupsOf) (width : ℕ) → groups ≡ mid.groups → AllByRecursion (λ key. AllByRecursion (FitsAll width (before key ++ more key)) aggregates) keys
       → MayJoinGroup aggregates mid i width (numbered part.items rows)
   part_may_join mid width is fits =
       let here = group_at groups i group_there in
@@ -177,10 +161,10 @@ module _ (aggregates : List Aggregate) (rows : List (List CellValue)) (parts : L
         };
       }
 
-  pub part_joined : (old new : Groups) → groups ≡ old.rows.keys → JoinsGroup aggregates old new i (numbered part.items rows)
-      → ZipFrom (λ key (ts : GroupRow). HasResults aggregates (before key ++ more key) ts) (λ key ts. HasResults aggregates (before key) ts) (i + 1) keys new.rows.keys
+  pub part_joined : (old new : GroupsOf) → groups ≡ old.groups → JoinsGroup aggregates old new i (numbered part.items rows)
+      → ZipFrom (λ key (ts : GroupOf). HasResults aggregates (before key ++ more key) ts) (λ key ts. HasResults aggregates (before key) ts) (i + 1) keys new.groups
   part_joined old new is joins =
       let at : joins.group ≡ get_or groups i joins.group = sym (get_or_from_slice_get groups i joins.group joins.group (ap (λ gs. slice_get gs i) is ∙ joins.there)) in
-      subst (ZipFrom (λ key (ts : GroupRow). HasResults aggregates (before key ++ more key) ts) (λ key ts. HasResults aggregates (before key) ts) (i + 1) keys) (ap (λ gs. slice_set gs i joins.made) is ∙ sym joins.rows)
-      (one_more_by (λ key (ts : GroupRow). HasResults aggregates (before key ++ more key) ts) (λ key ts. HasResults aggregates (before key) ts) keys groups i [] joins.made zip there
+      subst (ZipFrom (λ key (ts : GroupOf). HasResults aggregates (before key ++ more key) ts) (λ key ts. HasResults aggregates (before key) ts) (i + 1) keys) (ap (λ gs. slice_set gs i joins.made) is ∙ sym joins.groups)
+      (one_more_by (λ key (ts : GroupOf). HasResults aggregates (before key ++ more key) ts) (λ key ts. HasResults aggregates (before key) ts) keys groups i [] joins.made zip there
       (subst (λ rs. HasResults aggregates (before (get_or keys i []) ++ rs) joins.made) come (joins.joins (before (get_or keys i [])) (its joins.group at))))

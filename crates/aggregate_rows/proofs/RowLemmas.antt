@@ -1,5 +1,5 @@
 -- The rows with some numbers, and the values that they have in a column.
-use Rattle.std.proofs.Common.{◌≡◌, ℕ, zero, suc, ◌+◌, ◌-◌, ◌++◌, ◌<◌, ◌≤◌, Some, List, [], ◌∷◌, length, map, take, drop, get_or, sym, ap, ◌∙◌, arith}
+use Rattle.std.proofs.Common.{◌≡◌, ℕ, zero, suc, ◌+◌, ◌-◌, ◌++◌, ◌<◌, ◌≤◌, Some, List, [], ◌∷◌, length, map, take, drop, get_or, ap, ◌∙◌, arith, refl}
 use Rattle.std.specs.Prelude.{option_and_then, slice_get, slice_index_or}
 use Rattle.std.proofs.Math.Seq.{drop-cons}
 use Rattle.std.proofs.lemmas.List.{map-append, map_more}
@@ -32,6 +32,5 @@ pub key_more : (rows : List (List CellValue)) (number : ℕ) (places : List ℕ)
     → option_and_then (λ values. slice_get values (get_or places i 0)) (slice_get rows number) ≡ Some (value_view value) → next ≡ key ++ value ∷ []
     → map value_view key ≡ values_at (take i places) (slice_index_or rows number []) → map value_view next ≡ values_at (take (i + 1) places) (slice_index_or rows number [])
 key_more rows number places i key value less at e so_far =
-    ap (map value_view) e ∙ map-append value_view key (value ∷ []) ∙ ap (λ vs. vs ++ value_view value ∷ []) so_far
-    ∙ ap (λ v. values_at (take i places) (slice_index_or rows number []) ++ v ∷ []) (sym (value_there rows number (get_or places i 0) (value_view value) at))
-    ∙ sym (map_more (value_at (slice_index_or rows number [])) places i 0 less)
+    rw (e, map-append value_view key (value ∷ []), so_far, map_more (value_at (slice_index_or rows number [])) places i 0 less)
+    (rw (value_there rows number (get_or places i 0) (value_view value) at) refl)

@@ -36,15 +36,9 @@ sum_fits f xs fit =
 
 -- ---- the sum of some numbers and of more
 
-sums_add : (a b c : ℤ) → a +ℤ (b +ℤ c) ≡ (a +ℤ b) +ℤ c
-sums_add a b c = omega (arith, ints)
-
-no_more : (a : ℤ) → a ≡ pos 0 +ℤ a
-no_more a = omega (arith, ints)
-
 sum_append : (ns ms : List ℤ) → integer_sum (ns ++ ms) ≡ integer_sum ns +ℤ integer_sum ms
-sum_append [] ms = no_more (integer_sum ms)
-sum_append (n ∷ ns) ms = ap (λ k. n +ℤ k) (sum_append ns ms) ∙ sums_add n (integer_sum ns) (integer_sum ms)
+sum_append [] ms = omega (arith, ints)
+sum_append (n ∷ ns) ms = rw (sum_append ns ms) (omega (arith, ints))
 
 some_append : (ns ms : List ℤ) → sum_of (ns ++ ms) ≡ sums_joined (sum_of ns) (sum_of ms)
 some_append [] ms = refl
@@ -84,11 +78,9 @@ module _ {X : Type 0} (f : X → Option ℤ) (xs : List X) (i : ℕ) (d : X) (so
 
   pub joins_before : sum_of (filter_map f (drop (i - 1) xs)) ≡ sums_joined (f (get_or xs (i - 1) d)) (sum_of (filter_map f (drop i xs)))
   joins_before =
-      ap (λ ys. sum_of (filter_map f ys)) one_before ∙ sums_join f (get_or xs (i - 1) d ∷ []) (drop i xs)
-      ∙ ap (λ s. sums_joined s (sum_of (filter_map f (drop i xs)))) (alone (f (get_or xs (i - 1) d)))
+      rw one_before (sums_join f (get_or xs (i - 1) d ∷ []) (drop i xs) ∙ ap (λ s. sums_joined s (sum_of (filter_map f (drop i xs)))) (alone (f (get_or xs (i - 1) d))))
 
   pub fits_before : AreSummable (filter_map f xs) (length xs) → FitSums (f (get_or xs (i - 1) d)) (sum_of (filter_map f (drop i xs)))
   fits_before fit =
       let all : AreSummable (filter_map f (take (i - 1) xs ++ drop (i - 1) xs)) (length (take (i - 1) xs ++ drop (i - 1) xs)) = rw take-append-drop fit in
-      subst (λ s. FitSums s (sum_of (filter_map f (drop i xs)))) (alone (f (get_or xs (i - 1) d)))
-      (sums_fit f (get_or xs (i - 1) d ∷ []) (drop i xs) (rw one_before at (rest_fit f (take (i - 1) xs) (drop (i - 1) xs) all)))
+      rw (alone (f (get_or xs (i - 1) d))) at (sums_fit f (get_or xs (i - 1) d ∷ []) (drop i xs) (rw one_before at (rest_fit f (take (i - 1) xs) (drop (i - 1) xs) all)))

@@ -13,7 +13,7 @@ use Rattle.query_meaning.specs.Apply.{computed_value, is_value, least_value, gre
 use Rattle.aggregate_rows.specs.declared.computed.Extreme.{Extreme}
 use Rattle.aggregate_rows.specs.declared.computed.Extreme.TheVariants.{Greatest, Least}
 use Rattle.aggregate_rows.specs.Computed.{aggregate_of, better_value, value_wins}
-use Rattle.aggregate_rows.specs.Tallies.{HasDistinct}
+use Rattle.aggregate_rows.specs.Distinct.{HasDistinct}
 use Rattle.aggregate_rows.proofs.ExtremeLemmas.{below_trans, not_below, pick, picked}
 use Rattle.aggregate_rows.proofs.ListLemmas.{there_already}
 
@@ -29,27 +29,16 @@ module _ (wins : CellValue → CellValue → Bool) where
   value_picked : (v w : CellValue) → is_value v ≡ true → is_value w ≡ true → is_value (pick wins v w) ≡ true
   value_picked v w a b = elim (cases_Bool (wins w v)) [ inl e ↦ rw e b | inr e ↦ rw e a ]
 
-  of_both : (v w : CellValue) → is_value v ≡ true → is_value w ≡ true → choose wins v w ≡ pick wins v w
-  of_both v w a b = rw (a, b) refl
-
-  of_none : (v w : CellValue) → is_value v ≡ false → choose wins v w ≡ w
-  of_none v w a = rw a refl
-
-  of_first : (v w : CellValue) → is_value v ≡ true → is_value w ≡ false → choose wins v w ≡ v
-  of_first v w a b = rw (a, b) refl
-
   module _ (trans : (u v w : CellValue) → wins w v ≡ true → wins v u ≡ true → wins w u ≡ true)
       (lost : (u v w : CellValue) → wins w v ≡ false → wins v u ≡ false → wins w u ≡ false) where
     chosen : (u v w : CellValue) → choose wins u (choose wins v w) ≡ choose wins (choose wins u v) w
     chosen u v w = elim (cases_Bool (is_value u)) [
-      | inr a ↦ of_none u (choose wins v w) a ∙ sym (ap (λ z. choose wins z w) (of_none u v a))
+      | inr a ↦ rw a refl
       | inl a ↦ elim (cases_Bool (is_value v)) [
-        | inr b ↦ ap (choose wins u) (of_none v w b) ∙ sym (ap (λ z. choose wins z w) (of_first u v a b))
+        | inr b ↦ rw (a, b, a) refl
         | inl b ↦ elim (cases_Bool (is_value w)) [
-          | inr c ↦ ap (choose wins u) (of_first v w b c) ∙ of_both u v a b
-              ∙ sym (ap (λ z. choose wins z w) (of_both u v a b) ∙ of_first (pick wins u v) w (value_picked u v a b) c)
-          | inl c ↦ ap (choose wins u) (of_both v w b c) ∙ of_both u (pick wins v w) a (value_picked v w b c) ∙ picked wins trans lost u v w
-              ∙ sym (ap (λ z. choose wins z w) (of_both u v a b) ∙ of_both (pick wins u v) w (value_picked u v a b) c)
+          | inr c ↦ rw (a, b, c, b, value_picked u v a b) refl
+          | inl c ↦ rw (a, b, c, value_picked v w b c, value_picked u v a b) (picked wins trans lost u v w)
         ]
       ]
     ]
@@ -61,13 +50,13 @@ module _ (wins : CellValue → CellValue → Bool) where
     best_is_value w (x ∷ ws) a = ap is_value (more w x ws) ∙ value_picked w (best (x ∷ ws)) a.0 (best_is_value x ws a.1)
 
     best_of : (v : CellValue) (ws : List CellValue) → AllByRecursion (λ v. is_value v ≡ true) ws → is_value v ≡ true → best (v ∷ ws) ≡ choose wins v (best ws)
-    best_of v [] a e = one v ∙ sym (ap (choose wins v) none ∙ of_first v null e refl)
-    best_of v (w ∷ ws) a e = more v w ws ∙ sym (of_both v (best (w ∷ ws)) e (best_is_value w ws a))
+    best_of v [] a e = rw (one v, none, e) refl
+    best_of v (w ∷ ws) a e = rw (more v w ws, e, best_is_value w ws a) refl
 
     best_before : (v : CellValue) (vs : List CellValue) → best (filter is_value (v ∷ vs)) ≡ choose wins v (best (filter is_value vs))
     best_before v vs = elim (cases_Bool (is_value v)) [
-      | inl e ↦ (let front : filter is_value (v ∷ vs) ≡ v ∷ filter is_value vs = rw e refl in ap best front ∙ best_of v (filter is_value vs) (all_values vs) e)
-      | inr e ↦ (let front : filter is_value (v ∷ vs) ≡ filter is_value vs = rw e refl in ap best front ∙ sym (of_none v (best (filter is_value vs)) e))
+      | inl e ↦ rw (← (best_of v (filter is_value vs) (all_values vs) e), e) refl
+      | inr e ↦ rw e refl
     ]
 
     best_joined : ((u v w : CellValue) → choose wins u (choose wins v w) ≡ choose wins (choose wins u v) w) → (vs ws : List CellValue)

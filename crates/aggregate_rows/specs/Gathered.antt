@@ -10,10 +10,9 @@ use Rattle.odata_query.specs.Query.{optional_numbers}
 use Rattle.insertion_map.specs.Places.{insert_key}
 use Rattle.query_meaning.specs.Apply.{computed_value, computed_values, group_values, rows_of_group, same_values}
 use Rattle.aggregate_rows.specs.declared.aggregator.Aggregator.{Aggregator}
-use Rattle.aggregate_rows.specs.declared.groups.Groups.{Groups}
-use Rattle.aggregate_rows.specs.declared.group_row.GroupRow.{GroupRow}
 use Rattle.aggregate_rows.specs.Groups.{grouped_rows}
-use Rattle.aggregate_rows.specs.Tallies.{aggregates_at, key_of_group, FitsAll, HasResults, MayTallyEach, TalliesEach}
+use Rattle.aggregate_rows.specs.Table.{key_of_group, shape_of, GroupOf, GroupsOf}
+use Rattle.aggregate_rows.specs.Tallies.{aggregates_at, FitsAll, HasResults, MayTallyEach, TalliesEach}
 
 -- one row of aggregates of all rows, or a row for each group of those with the same values in some columns
 abbrev pub gathered_rows : Option (List ℕ) → List NamedAggregateOf → List (List CellValue) → List (List CellValue)
@@ -34,10 +33,20 @@ abbrev pub part_of : Option (List ℕ) → List (List CellValue) → List CellVa
 part_of None rows key = rows
 part_of (Some places) rows key = rows_of_group places rows key
 
+-- how many values make a group
+abbrev pub key_width : Option (List ℕ) → ℕ
+key_width None = 0
+key_width (Some places) = length places
+
+-- the values of each group
+abbrev pub keys_held : GroupsOf → List (List CellValue)
+keys_held groups = map key_of_group groups.groups
+
 -- those are the groups of the rows: their values, and what is computed of the rows of each
-pub record HasGroups (places : Option (List ℕ)) (aggregates : List Aggregate) (groups : Groups) (rows : List (List CellValue)) : Type 0 where
-  pub keys_are : map key_of_group groups.rows.keys ≡ group_keys places rows
-  pub results_are : AllZip (HasResults aggregates) (map (part_of places rows) (group_keys places rows)) groups.rows.keys
+pub record HasGroups (places : Option (List ℕ)) (aggregates : List Aggregate) (groups : GroupsOf) (rows : List (List CellValue)) : Type 0 where
+  pub shape_is : groups.shape ≡ shape_of (key_width places) aggregates
+  pub keys_are : keys_held groups ≡ group_keys places rows
+  pub results_are : AllZip (HasResults aggregates) (map (part_of places rows) (group_keys places rows)) groups.groups
 
 -- aggregates without their names
 abbrev pub plain_aggregates : List NamedAggregateOf → List Aggregate
@@ -90,63 +99,59 @@ lent_places places = option_map (λ p. p.now) places
 
 -- ---- inside
 
-pub record MayJoinGroups (places : Option (List ℕ)) (aggregates : List Aggregate) (width : ℕ) (old : Groups) (more : List (List CellValue)) : Type 0 where
+pub record MayJoinGroups (places : Option (List ℕ)) (aggregates : List Aggregate) (width : ℕ) (old : GroupsOf) (more : List (List CellValue)) : Type 0 where
   pub rows : List (List CellValue)
   pub has : HasGroups places aggregates old rows
   pub fits : AllByRecursion (FitsAll width (rows ++ more)) aggregates
 
-abbrev pub JoinsGroups : Option (List ℕ) → List Aggregate → Groups → Groups → List (List CellValue) → Type 0
+abbrev pub JoinsGroups : Option (List ℕ) → List Aggregate → GroupsOf → GroupsOf → List (List CellValue) → Type 0
 JoinsGroups places aggregates old new more = (rows : List (List CellValue)) → HasGroups places aggregates old rows → HasGroups places aggregates new (rows ++ more)
 
 -- more rows may join those of the group at a place
-pub record MayJoinGroup (aggregates : List Aggregate) (groups : Groups) (place width : ℕ) (more : List (List CellValue)) : Type 0 where
-  pub group : GroupRow
-  pub there : slice_get groups.rows.keys place ≡ Some group
+pub record MayJoinGroup (aggregates : List Aggregate) (groups : GroupsOf) (place width : ℕ) (more : List (List CellValue)) : Type 0 where
+  pub group : GroupOf
+  pub there : slice_get groups.groups place ≡ Some group
   pub may : MayTallyEach aggregates width group more
 
 -- and these joined: its key stays, and so do the others
-pub record JoinsGroup (aggregates : List Aggregate) (old new : Groups) (place : ℕ) (more : List (List CellValue)) : Type 0 where
-  pub group : GroupRow
-  pub there : slice_get old.rows.keys place ≡ Some group
-  pub made : GroupRow
-  pub key : key_of_group made ≡ key_of_group group
+pub record JoinsGroup (aggregates : List Aggregate) (old new : GroupsOf) (place : ℕ) (more : List (List CellValue)) : Type 0 where
+  pub group : GroupOf
+  pub there : slice_get old.groups place ≡ Some group
+  pub made : GroupOf
+  pub key : made.key ≡ group.key
   pub joins : TalliesEach aggregates group made more
-  pub rows : new.rows.keys ≡ slice_set old.rows.keys place made
-
--- the values of each group
-abbrev pub keys_held : Groups → List (List CellValue)
-keys_held groups = map key_of_group groups.rows.keys
+  pub shape : new.shape ≡ old.shape
+  pub groups : new.groups ≡ slice_set old.groups place made
 
 -- that is the group of these values
-abbrev pub IsGroupOf : Groups → List CellValue → ℕ → Type 0
+abbrev pub IsGroupOf : GroupsOf → List CellValue → ℕ → Type 0
 IsGroupOf groups key group = (group < length (keys_held groups)) × (slice_index_or (keys_held groups) group [] ≡ key)
 
+-- a group of no rows came after the others, with that key
+pub record IsPushed (aggregates : List Aggregate) (key : List CellValue) (old new : List GroupOf) : Type 0 where
+  pub made : GroupOf
+  pub key_is : made.key ≡ key
+  pub begins : HasResults aggregates [] made
+  pub groups : new ≡ old ++ made ∷ []
+
 -- the group of a key is one of those that there were, or a new one of no rows, after the others
-pub record HasGroupMore (aggregates : List Aggregate) (old new : Groups) (key : List CellValue) : Type 0 where
+pub record HasGroupMore (aggregates : List Aggregate) (old new : GroupsOf) (key : List CellValue) : Type 0 where
+  pub shape : new.shape ≡ old.shape
   pub keys : keys_held new ≡ insert_key same_values (keys_held old) key
-  pub stay : list_any (same_values key) (keys_held old) ≡ true → new.rows.keys ≡ old.rows.keys
+  pub stay : list_any (same_values key) (keys_held old) ≡ true → new.groups ≡ old.groups
   pub begins : list_any (same_values key) (keys_held old) ≡ false
-      → (made : GroupRow) × HasResults aggregates [] made × (new.rows.keys ≡ old.rows.keys ++ made ∷ [])
+      → (made : GroupOf) × HasResults aggregates [] made × (new.groups ≡ old.groups ++ made ∷ [])
 
--- how many values make a group, and for each group these and what is computed of its rows
-abbrev pub key_width : Option (List ℕ) → ℕ
-key_width None = 0
-key_width (Some places) = length places
-
+-- for each group its values and what is computed of its rows
 abbrev pub rows_gathered : Option (List ℕ) → List Aggregate → List (List CellValue) → List (List CellValue)
 rows_gathered places aggregates rows = map (λ key. key ++ map (computed_value (part_of places rows key)) aggregates) (group_keys places rows)
 
--- those are the values of a group's key, and after them what the aggregates at places compute of any rows whose results it has
-abbrev pub ShowsGroup : GroupRow → List ℕ → List CellValue → Type 0
-ShowsGroup group shown row = (aggregates : List Aggregate) (rows : List (List CellValue)) → HasResults aggregates rows group
-    → row ≡ key_of_group group ++ map (computed_value rows) (aggregates_at shown aggregates)
-
--- the groups are those of some rows, with keys of that many columns, and these places are among the aggregates
-abbrev pub HaveShown : Groups → ℕ → List ℕ → Type 0
-HaveShown groups width shown =
-    (places : Option (List ℕ)) × (aggregates : List Aggregate) × (rows : List (List CellValue)) × HasGroups places aggregates groups rows × (key_width places ≡ width) × All (λ place. place < length aggregates) shown
+-- the groups are those of some rows, and these places are among the aggregates
+abbrev pub HaveShown : GroupsOf → List ℕ → Type 0
+HaveShown groups shown =
+    (places : Option (List ℕ)) × (aggregates : List Aggregate) × (rows : List (List CellValue)) × HasGroups places aggregates groups rows × All (λ place. place < length aggregates) shown
 
 -- those rows are made of the groups of any rows, by the aggregates at places
-abbrev pub MakesRows : Groups → List ℕ → List (List CellValue) → Type 0
+abbrev pub MakesRows : GroupsOf → List ℕ → List (List CellValue) → Type 0
 MakesRows groups shown made = (places : Option (List ℕ)) (aggregates : List Aggregate) (rows : List (List CellValue)) → HasGroups places aggregates groups rows
     → made ≡ rows_gathered places (aggregates_at shown aggregates) rows

@@ -10,4 +10,7 @@ pub mod Gathered
 pub mod Parts
 pub mod Groups
 pub mod Sums
+pub mod Distinct
+pub mod Table
 pub mod Tallies
+pub mod Inside

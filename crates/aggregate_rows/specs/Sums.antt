@@ -2,8 +2,7 @@
 use Rattle.std.specs.Prelude.{ℕ, ℤ, ◌+ℤ◌, ◌≡◌, ◌++◌, length, slice_index_or, List, [], ◌∷◌, Option, Some, None, FitsSigned}
 use Rattle.std.specs.Int.{w128}
 use Rattle.std.specs.List.{filter_map}
-use Rattle.block_summary.specs.Ranges.{column_of}
-use Rattle.block_summary.specs.Types.{cells_of_kind, numbers_of}
+use Rattle.block_summary.specs.Types.{numbers_of}
 use Rattle.cell_types.specs.declared.kind.NumberKind.{NumberKind}
 use Rattle.cell_types.specs.Value.{CellValue}
 use Rattle.row_eval.specs.Row.{cell, number_in}

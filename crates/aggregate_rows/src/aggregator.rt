@@ -8,7 +8,8 @@ ghost use Rattle.row_columns.specs.Picked.{numbered};
 ghost use Rattle.aggregate_rows.specs.Gathered.{gathered_rows, gathered_width, lent_places, plain_aggregates, AreOnce, Gathers, HasGatheredRows, HasGatheredWidth, HasGroupCount, Adjoins, MayJoin};
 ghost use Rattle.aggregate_rows.specs.Tallies.{FitsAll};
 
-use crate::groups::{Grouping, Groups, RowsAt};
+use crate::groups::{Groups, RowsAt};
+use crate::joins::Grouping;
 use odata_query::{Aggregate, NamedAggregate};
 use row_columns::Columns;
 use row_selection::Selection;
@@ -47,12 +48,15 @@ impl Aggregator {
                     groups,
                 })
             }
-            Some(places) => Ok(Aggregator {
-                places: Some(Vec::from_slice(alloc, places)?),
-                aggregates,
-                shown,
-                groups: Groups::none(alloc),
-            }),
+            Some(places) => {
+                let groups = Groups::none(alloc, places.len(), &aggregates);
+                Ok(Aggregator {
+                    places: Some(Vec::from_slice(alloc, places)?),
+                    aggregates,
+                    shown,
+                    groups,
+                })
+            }
         }
     }
 
@@ -87,7 +91,7 @@ impl Aggregator {
     pub fn group_count(&self) -> usize
         ensures { HasGroupCount self.now result }
     {
-        self.groups.rows.len()
+        self.groups.len()
     }
 
     /// Returns the one row of `aggregate`, or the rows of `groupby`, of all rows that joined, in columns of any. Groups are in the order of their first rows.
@@ -97,12 +101,8 @@ impl Aggregator {
         ensures width { IfOk result (λ made. HasGatheredWidth self (length made.kinds)) }
         ensures rows { IfOk result (λ made. HasGatheredRows self made.rows) }
     {
-        let width = match &self.places {
-            None => 0,
-            Some(places) => places.len(),
-        };
         let Aggregator { groups, shown, .. } = self;
-        groups.into_rows(alloc, width, &shown)
+        groups.into_rows(alloc, &shown)
     }
 }
 

@@ -5,7 +5,7 @@ ghost use Rattle.cell_types.specs.Value.{CellValue, value_view};
 ghost use Rattle.query_meaning.specs.Apply.{is_value, value_at};
 ghost use Rattle.row_columns.specs.Picked.{numbered};
 ghost use Rattle.row_codes.specs.Kept.{IsKeptAs};
-ghost use Rattle.aggregate_rows.specs.Tallies.{HoldsDistinct, JoinsDistinct, JoinsValue, JoinsValues};
+ghost use Rattle.aggregate_rows.specs.Distinct.{HoldsDistinct, JoinsDistinct, JoinsValue, JoinsValues};
 
 use crate::computed::is_null;
 use crate::parts::RowAt;

@@ -1,30 +1,28 @@
-//! Groups of rows, by their values in some columns, while rows come.
-ghost use Rattle.std.specs.Prelude.{◌≡◌, ◌<◌, ◌+◌, ◌^◌, [], ℕ, IfOk, IsTrue, List, None, OnOk, Option, Some, length, map, replicate, slice_index_or};
-ghost use Rattle.std.specs.List.{All};
-ghost use Rattle.cell_types.specs.Value.{CellValue, value_view};
-ghost use Rattle.odata_query.specs.declared.aggregate.Aggregate.{Aggregate};
-ghost use Rattle.query_meaning.specs.Apply.{values_at};
+//! Groups one after another: the values of their keys with what is computed of their rows.
+ghost use Rattle.std.specs.Prelude.{◌≡◌, ◌<◌, ◌+◌, ◌^◌, ◌++◌, [], ℕ, false, IfOk, IfSome, IsTrue, None, OnOk, length, map, replicate, slice_index_or, take};
+ghost use Rattle.std.specs.Cmp.Lexicographic.{pointwise};
+ghost use Rattle.std.specs.Hash as fed;
+ghost use Rattle.std.specs.List.{list_any, All};
+ghost use Rattle.cell_types.specs.Value.{value_view};
+ghost use Rattle.insertion_map.specs.Places.{hash_value};
+ghost use Rattle.query_meaning.specs.Apply.{computed_value, same_values};
 ghost use Rattle.row_columns.specs.Kinds.{any};
+ghost use Rattle.row_columns.specs.Numbers.{numbers_from};
 ghost use Rattle.row_columns.specs.Picked.{numbered};
-ghost use Rattle.aggregate_rows.specs.Gathered.{HasGroupMore, HasGroups, HaveShown, IsGroupOf, ShowsGroup, JoinsGroup, JoinsGroups, MakesRows, MayJoinGroup, MayJoinGroups};
-ghost use Rattle.aggregate_rows.specs.Tallies.{key_of_group, HasResults};
+ghost use Rattle.aggregate_rows.specs.Gathered.{keys_held, HaveShown, IsGroupOf, IsPushed, JoinsGroup, MakesRows, MayJoinGroup};
+ghost use Rattle.aggregate_rows.specs.Table.{shape_of};
+ghost use Rattle.aggregate_rows.specs.Tallies.{HasSetsMore};
 
-use crate::group_row::GroupRow;
-use crate::parts::parts_of;
-use crate::results::{join_each, result_of_none, sets_of_none};
+use crate::distinct::Distinct;
+use crate::results::{distinct_count, distinct_place, join_each, result_of_none};
 use cell_types::{Value, owned};
-use insertion_map::KeyPlaces;
+use insertion_map::HashPlaces;
 use odata_query::Aggregate;
 use row_columns::Columns;
 use row_selection::Selection;
 use std::alloc::{AllocError, Global};
-
-/// The places of the columns by whose values rows are grouped, and what is computed of each group.
-#[derive(Clone, Copy)]
-pub(crate) struct Grouping<'a> {
-    pub(crate) places: &'a [usize],
-    pub(crate) aggregates: &'a [Aggregate],
-}
+use std::hash::Hash;
+use std::marker::Model;
 
 /// Rows of columns.
 #[derive(Clone, Copy)]
@@ -33,31 +31,118 @@ pub(crate) struct RowsAt<'a> {
     pub(crate) numbers: &'a Selection,
 }
 
-/// Groups in the order of their first rows.
+/// Groups in the order of their first rows. Each has the values of its key, and after them what is computed of its rows.
 #[derive(Drop)]
 pub(crate) struct Groups {
-    pub(crate) rows: KeyPlaces<GroupRow<'static>>,
+    /// The place of each group by the hash of its key.
+    places: HashPlaces,
+    /// How many values make a key.
+    key_width: usize,
+    /// How many values a group has.
+    width: usize,
+    /// The values of all groups, one group after another. What is after them is of no group.
+    values: Vec<Value<'static>>,
+    /// How many aggregates count distinct values.
+    set_count: usize,
+    /// The distinct values of each group and each such aggregate, one group after another.
+    sets: Vec<Distinct>,
+}
+
+impl Model for Groups {
+    ghost use Rattle.aggregate_rows.specs.Inside.{groups_view, AreGroups};
+    ghost use Rattle.aggregate_rows.specs.Table.{GroupsOf};
+
+    ghost Value = { GroupsOf };
+
+    ghost view = { groups_view };
+
+    ghost invariant = { AreGroups ⟦<Value<'static> as Hash>⟧.hash_input };
+}
+
+/// Returns true if two lists have equal items.
+fn are_equal<T: PartialEq>(items: &[T], others: &[T]) -> bool
+    ensures { result ≡ pointwise T.eq items.now others.now }
+{
+    items == others
 }
 
 impl Groups {
     /// Returns no groups.
-    pub(crate) fn none(alloc: Global) -> Groups
-        ensures groups { (places : List ℕ) (aggregates : List Aggregate)
-            → HasGroups (Some places) aggregates result [] }
-        ensures rows { result.rows.keys ≡ [] }
+    pub(crate) fn none(alloc: Global, key_width: usize, aggregates: &[Aggregate]) -> Groups
+        requires { key_width + length aggregates.now < 2 ^ 62 }
+        ensures shape { result.shape ≡ shape_of key_width aggregates.now }
+        ensures groups { result.groups ≡ [] }
     {
         Groups {
-            rows: KeyPlaces::new(alloc),
+            places: HashPlaces::new(alloc),
+            key_width,
+            width: key_width + aggregates.len(),
+            values: Vec::new(alloc),
+            set_count: distinct_count(aggregates),
+            sets: Vec::new(alloc),
         }
     }
 
-    /// Returns all rows as one group, of which there are none.
-    pub(crate) fn whole(alloc: Global, aggregates: &[Aggregate]) -> Result<Groups, AllocError>
-        ensures { IfOk result (λ groups. HasGroups None aggregates.now groups []) }
+    /// Returns how many groups there are.
+    pub(crate) fn len(&self) -> usize
+        ensures { result ≡ length self.now.groups }
     {
-        let mut groups = Groups::none(alloc);
-        groups.rows.insert(group_of_none(alloc, &[], aggregates)?)?;
-        Ok(groups)
+        self.places.len()
+    }
+
+    /// Returns the values of the key of the group at `place`.
+    #[inline(always)]
+    fn key(&self, place: usize) -> &[Value<'static>]
+        requires { place < length self.now.groups }
+        ensures { map value_view result.now ≡ slice_index_or (keys_held self.now) place [] }
+    {
+        let from = place * self.width;
+        &self.values[from..from + self.key_width]
+    }
+
+    /// Returns the place of the group with a key, given with its hash.
+    pub(crate) fn place_of<'a>(&self, key: &[Value<'a>], hash: u64) -> Option<usize>
+        requires { hash ≡ hash_value (fed.slice ⟦<Value<'a> as Hash>⟧.hash_input key.now) }
+        ensures some { IfSome result (IsGroupOf self.now (map value_view key.now)) }
+        ensures none { result ≡ None
+            → list_any (same_values (map value_view key.now)) (keys_held self.now) ≡ false }
+    {
+        cell_types::values_are_ordered();
+        cell_types::values_compare_as_their_views();
+        let has_key = |place: usize| -> bool
+            requires { place < length self.now.groups }
+            ensures { result ≡ same_values (slice_index_or (keys_held self.entry.now) place [])
+                (map value_view key.entry.now) }
+        {
+            cell_types::values_compare_as_their_views();
+            are_equal(self.key(place), key)
+        };
+        self.places.find(hash, has_key)
+    }
+
+    /// Appends a group of no rows, with a key given with its hash.
+    pub(crate) fn push<'a>(
+        &mut self,
+        alloc: Global,
+        key: &[Value<'a>],
+        hash: u64,
+        aggregates: &[Aggregate],
+    ) -> Result<(), AllocError>
+        requires hash { hash ≡ hash_value (fed.slice ⟦<Value<'a> as Hash>⟧.hash_input key.now) }
+        requires shape { self.old.shape ≡ shape_of (length key.now) aggregates.now }
+        ensures shape { self.new.shape ≡ self.old.shape }
+        ensures groups { OnOk result (IsPushed aggregates.now (map value_view key.now)
+            self.old.groups self.new.groups) }
+    {
+        cell_types::values_compare_as_their_views();
+        let count = self.places.len();
+        let end = count * self.width;
+        let set_end = count * self.set_count;
+        self.values.truncate(end);
+        self.sets.truncate(set_end);
+        push_copies(&mut self.values, alloc, key)?;
+        push_results(&mut self.values, &mut self.sets, alloc, aggregates)?;
+        self.places.push(hash)
     }
 
     /// Joins rows to those of the group at `place`.
@@ -68,120 +153,89 @@ impl Groups {
         aggregates: &[Aggregate],
         rows: RowsAt<'_>,
     ) -> Result<(), AllocError>
-        requires within { All (λ number. number < length rows.columns.now.rows)
-            rows.numbers.now }
+        requires within { All (λ number. number < length rows.columns.now.rows) rows.numbers.now }
         requires joins { MayJoinGroup aggregates.now self.old place
             (length rows.columns.now.kinds) (numbered rows.numbers.now rows.columns.now.rows) }
         ensures { OnOk result (JoinsGroup aggregates.now self.old self.new place
             (numbered rows.entry.numbers.now rows.entry.columns.now.rows)) }
     {
-        cell_types::values_are_ordered();
-        cell_types::values_compare_as_their_views();
-        let RowsAt { columns, numbers } = rows;
-        self.rows.change_at(place, |group| {
-            join_each(alloc, group, aggregates, columns, numbers)
-        })
+        let from = place * self.width + self.key_width;
+        let set = place * self.set_count;
+        let results = &mut self.values.as_mut_slice()[from..from + aggregates.len()];
+        let sets = &mut self.sets.as_mut_slice()[set..set + self.set_count];
+        join_each(alloc, results, sets, aggregates, rows)
     }
 
-    /// Joins the rows with these numbers to the groups of their values.
-    pub(crate) fn join_rows(
-        &mut self,
-        alloc: Global,
-        columns: &Columns,
-        numbers: &Selection,
-        grouping: Grouping<'_>,
-    ) -> Result<(), AllocError>
-        requires within { All (λ number. number < length columns.now.rows) numbers.now }
-        requires places { All (λ place. place < length columns.now.kinds) grouping.places.now }
-        requires joins { MayJoinGroups (Some grouping.places.now) grouping.aggregates.now
-            (length columns.now.kinds) self.old (numbered numbers.now columns.now.rows) }
-        ensures { OnOk result (JoinsGroups (Some grouping.entry.places.now)
-            grouping.entry.aggregates.now self.old self.new
-            (numbered numbers.now columns.now.rows)) }
-    {
-        cell_types::values_are_ordered();
-        query_meaning::rows_are_in_groups();
-        if let Some(groups) = self.groups_of(alloc, columns, numbers, grouping)? {
-            let parts = parts_of(alloc, self.rows.len(), numbers, &groups)?;
-            return self.join_parts(alloc, columns, parts, grouping.aggregates);
-        }
-        self.join_each_row(alloc, columns, numbers, grouping)
-    }
-
-    /// Joins the rows with these numbers to the groups of their values, one after another.
-    fn join_each_row(
-        &mut self,
-        alloc: Global,
-        columns: &Columns,
-        numbers: &Selection,
-        grouping: Grouping<'_>,
-    ) -> Result<(), AllocError>
-        requires within { All (λ number. number < length columns.now.rows) numbers.now }
-        requires places { All (λ place. place < length columns.now.kinds) grouping.places.now }
-        requires joins { MayJoinGroups (Some grouping.places.now) grouping.aggregates.now
-            (length columns.now.kinds) self.old (numbered numbers.now columns.now.rows) }
-        ensures { OnOk result (JoinsGroups (Some grouping.entry.places.now)
-            grouping.entry.aggregates.now self.old self.new
-            (numbered numbers.now columns.now.rows)) }
-    {
-        cell_types::values_are_ordered();
-        query_meaning::rows_are_in_groups();
-        let Grouping { places, aggregates } = grouping;
-        let mut key = GroupRow::with_room(alloc, places.len())?;
-        for i in 0..numbers.len() {
-            let number = numbers.at(i);
-            read_key(&mut key, columns, number, places)?;
-            let numbers = &Selection::one(number);
-            let place = self.group_of(alloc, &key, aggregates)?;
-            self.join_group(alloc, place, aggregates, RowsAt { columns, numbers })?;
-        }
-        Ok(())
-    }
-
-    /// Returns the place of the group of a key. One of no rows comes after the others if the key is none of theirs; the key is looked up before it is copied.
-    pub(crate) fn group_of(
-        &mut self,
-        alloc: Global,
-        key: &GroupRow<'_>,
-        aggregates: &[Aggregate],
-    ) -> Result<usize, AllocError>
-        ensures group { IfOk result (IsGroupOf self.new (key_of_group key.now)) }
-        ensures more { OnOk result (HasGroupMore aggregates.now self.old self.new
-            (key_of_group key.now)) }
-    {
-        cell_types::values_are_ordered();
-        cell_types::values_compare_as_their_views();
-        match self.rows.place(key) {
-            Some(place) => Ok(place),
-            None => {
-                let place = self.rows.len();
-                let group = group_of_none(alloc, key.key(), aggregates)?;
-                self.rows.insert(group)?;
-                Ok(place)
-            }
-        }
-    }
-
-    /// Returns a row for each group: its values, and what is computed of its rows by the aggregates at `shown`.
-    pub(crate) fn into_rows(
-        self,
-        alloc: Global,
-        width: usize,
-        shown: &[usize],
-    ) -> Result<Columns, AllocError>
-        requires columns { width + length shown.now < 2 ^ 64 }
-        requires gathered { HaveShown self width shown.now }
+    /// Returns a row for each group: the values of its key, and what is computed of its rows by the aggregates at `shown`.
+    pub(crate) fn into_rows(self, alloc: Global, shown: &[usize]) -> Result<Columns, AllocError>
+        requires { HaveShown self shown.now }
         ensures kinds { IfOk result (λ made.
-            made.kinds ≡ replicate (width + length shown.now) any) }
+            made.kinds ≡ replicate (self.shape.key + length shown.now) any) }
         ensures rows { IfOk result (λ made. MakesRows self shown.now made.rows) }
     {
-        let groups = self.rows.into_keys();
-        let mut rows = Vec::with_capacity(alloc, groups.len())?;
-        for group in groups {
-            rows.push(shown_row(alloc, group, shown)?)?;
+        let count = self.len();
+        let key_width = self.key_width;
+        let width = self.width;
+        let Groups { values, .. } = self;
+        let columns = Columns::of_values(alloc, width, count, values)?;
+        if are_all(shown, width - key_width) {
+            return Ok(columns);
         }
-        Columns::of_rows(alloc, width + shown.len(), rows)
+        let places = shown_places(alloc, key_width, shown)?;
+        let numbers = Selection::all(count).to_vec(alloc)?;
+        columns.picked(alloc, &places, &numbers)
     }
+}
+
+/// Appends copies of values.
+fn push_copies(
+    values: &mut Vec<Value<'static>>,
+    alloc: Global,
+    others: &[Value<'_>],
+) -> Result<(), AllocError>
+    ensures front { take (length values.old.items) values.new.items ≡ values.old.items }
+    ensures values { OnOk result (map value_view values.new.items
+        ≡ map value_view values.old.items ++ map value_view others.now) }
+{
+    for value in others {
+        values.push(owned(alloc, value)?)?;
+    }
+    Ok(())
+}
+
+/// Appends what each aggregate computes of no rows, and a set of no values for each that counts distinct ones.
+fn push_results(
+    values: &mut Vec<Value<'static>>,
+    sets: &mut Vec<Distinct>,
+    alloc: Global,
+    aggregates: &[Aggregate],
+) -> Result<(), AllocError>
+    ensures front { take (length values.old.items) values.new.items ≡ values.old.items }
+    ensures sets_front { take (length sets.old.items) sets.new.items ≡ sets.old.items }
+    ensures values { OnOk result (map value_view values.new.items
+        ≡ map value_view values.old.items ++ map (computed_value []) aggregates.now) }
+    ensures sets { OnOk result (HasSetsMore aggregates.now sets.old.items sets.new.items) }
+{
+    for aggregate in aggregates {
+        values.push(result_of_none(*aggregate))?;
+        if distinct_place(*aggregate).is_some() {
+            sets.push(Distinct::none(alloc))?;
+        }
+    }
+    Ok(())
+}
+
+/// Returns the places of the values of a key, and of those after it at `shown`.
+fn shown_places(alloc: Global, key_width: usize, shown: &[usize]) -> Result<Vec<usize>, AllocError>
+    requires { All (λ place. key_width + place < 2 ^ 64) shown.now }
+    ensures { IfOk result (λ made. made.items
+        ≡ numbers_from 0 key_width ++ map (λ place. key_width + place) shown.now) }
+{
+    let mut places = Selection::all(key_width).to_vec(alloc)?;
+    for place in shown {
+        places.push(key_width + *place)?;
+    }
+    Ok(places)
 }
 
 /// Returns true if the places are those of `count` results, each once and in their order.
@@ -198,77 +252,4 @@ fn are_all(shown: &[usize], count: usize) -> bool
         }
     }
     true
-}
-
-/// Returns the values of a group's key, and after them its results at `shown`. The row itself is given if they are all, in their order.
-fn shown_row(
-    alloc: Global,
-    group: GroupRow<'static>,
-    shown: &[usize],
-) -> Result<Vec<Value<'static>>, AllocError>
-    requires { (aggregates : List Aggregate) × (rows : List (List CellValue))
-        × HasResults aggregates rows group × All (λ place. place < length aggregates) shown.now }
-    ensures { IfOk result (λ row. ShowsGroup group.entry shown.now (map value_view row.items)) }
-{
-    if are_all(shown, group.values.len().saturating_sub(group.width)) {
-        let GroupRow { values, .. } = group;
-        return Ok(values);
-    }
-    let mut row = copied(alloc, group.key(), shown.len())?;
-    for place in shown {
-        row.push(owned(alloc, &group.values[group.width + *place])?)?;
-    }
-    Ok(row)
-}
-
-/// Reads the values that a row has in the columns with these places as a key, in the place of the one before.
-pub(crate) fn read_key<'a>(
-    key: &mut GroupRow<'a>,
-    columns: &'a Columns,
-    number: usize,
-    places: &[usize],
-) -> Result<(), AllocError>
-    requires row { number < length columns.now.rows }
-    requires places { All (λ place. place < length columns.now.kinds) places.now }
-    ensures { OnOk result (key_of_group key.new
-        ≡ values_at places.now (slice_index_or columns.now.rows number [])) }
-{
-    key.values.clear();
-    for place in places {
-        key.values.push(columns.value(number, *place))?;
-    }
-    key.width = places.len();
-    Ok(())
-}
-
-/// Returns a group of no rows with a key.
-fn group_of_none(
-    alloc: Global,
-    key: &[Value<'_>],
-    aggregates: &[Aggregate],
-) -> Result<GroupRow<'static>, AllocError>
-    ensures key { IfOk result (λ group. key_of_group group ≡ map value_view key.now) }
-    ensures results { IfOk result (HasResults aggregates.now []) }
-{
-    let mut values = copied(alloc, key, aggregates.len())?;
-    for aggregate in aggregates {
-        values.push(result_of_none(*aggregate))?;
-    }
-    let sets = sets_of_none(alloc, aggregates)?;
-    Ok(GroupRow {
-        values,
-        width: key.len(),
-        sets,
-    })
-}
-
-/// Returns a copy of a key that lives on its own, with room for `more` values.
-fn copied(alloc: Global, key: &[Value<'_>], more: usize) -> Result<Vec<Value<'static>>, AllocError>
-    ensures { IfOk result (λ copy. map value_view copy.items ≡ map value_view key.now) }
-{
-    let mut copy = Vec::with_capacity(alloc, key.len().saturating_add(more))?;
-    for value in key {
-        copy.push(owned(alloc, value)?)?;
-    }
-    Ok(copy)
 }

@@ -5,8 +5,8 @@
 mod aggregator;
 mod computed;
 mod distinct;
-mod group_row;
 mod groups;
+mod joins;
 mod kept;
 mod parts;
 mod results;

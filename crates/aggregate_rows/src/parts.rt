@@ -5,9 +5,11 @@ ghost use Rattle.query_meaning.specs.Apply.{values_at};
 ghost use Rattle.row_columns.specs.Picked.{numbered};
 ghost use Rattle.aggregate_rows.specs.Gathered.{keys_held, HasGroupMore, IsGroupOf};
 ghost use Rattle.aggregate_rows.specs.Parts.{AreGroupsOf, ArePartsFrom, BeginsGroups, JoinsParts, MayJoinParts};
+ghost use Rattle.aggregate_rows.specs.Table.{IsShaped};
 
-use crate::group_row::GroupRow;
-use crate::groups::{Grouping, Groups, RowsAt, read_key};
+use crate::groups::{Groups, RowsAt};
+use crate::joins::{Grouping, read_key};
+use cell_types::Value;
 use odata_query::Aggregate;
 use row_codes::key_codes;
 use row_columns::Columns;
@@ -39,6 +41,7 @@ impl Groups {
     ) -> Result<Option<Vec<usize>>, AllocError>
         requires within { All (λ number. number < length columns.now.rows) numbers.now }
         requires places { All (λ place. place < length columns.now.kinds) grouping.places.now }
+        requires shape { IsShaped self.old grouping.places.now grouping.aggregates.now }
         ensures none { IfOk result (λ groups. groups ≡ None → self.new ≡ self.old) }
         ensures few { IfOk result (λ groups. IfSome groups
             (λ _. length columns.now.rows ≤ 2 ^ 16)) }
@@ -49,7 +52,7 @@ impl Groups {
             (numbered numbers.now columns.now.rows))) }
     {
         cell_types::values_are_ordered();
-        if self.rows.len() > MOST_PARTS || columns.len() > PART_ROWS {
+        if self.len() > MOST_PARTS || columns.len() > PART_ROWS {
             return Ok(None);
         }
         let Some(codes) = key_codes(alloc, columns, numbers, grouping.places)? else {
@@ -78,6 +81,7 @@ impl Groups {
     ) -> Result<usize, AllocError>
         requires row { row.number < length row.columns.now.rows }
         requires places { All (λ place. place < length row.columns.now.kinds) grouping.places.now }
+        requires shape { IsShaped self.old grouping.places.now grouping.aggregates.now }
         requires known { IfSome known.old (IsGroupOf self.old (values_at grouping.places.now
             (slice_index_or row.columns.now.rows row.number []))) }
         ensures group { IfOk result (IsGroupOf self.new (values_at grouping.entry.places.now
@@ -109,12 +113,13 @@ impl Groups {
     ) -> Result<usize, AllocError>
         requires row { number < length columns.now.rows }
         requires places { All (λ place. place < length columns.now.kinds) grouping.places.now }
+        requires shape { IsShaped self.old grouping.places.now grouping.aggregates.now }
         ensures group { IfOk result (IsGroupOf self.new (values_at grouping.entry.places.now
             (slice_index_or columns.now.rows number []))) }
         ensures more { OnOk result (HasGroupMore grouping.entry.aggregates.now self.old self.new
             (values_at grouping.entry.places.now (slice_index_or columns.now.rows number []))) }
     {
-        let mut key: GroupRow<'a> = GroupRow::with_room(alloc, grouping.places.len())?;
+        let mut key: Vec<Value<'a>> = Vec::with_capacity(alloc, grouping.places.len())?;
         read_key(&mut key, columns, number, grouping.places)?;
         self.group_of(alloc, &key, grouping.aggregates)
     }
@@ -131,6 +136,7 @@ impl Groups {
             All (λ number. number < length columns.now.rows) part.items) parts.items }
         requires joins { MayJoinParts aggregates.now (length columns.now.kinds) self.old
             columns.now.rows parts.items }
+        ensures shape { OnOk result (self.new.shape ≡ self.old.shape) }
         ensures keys { OnOk result (keys_held self.new ≡ keys_held self.old) }
         ensures joins { OnOk result (JoinsParts aggregates.now self.old self.new
             columns.now.rows parts.items) }

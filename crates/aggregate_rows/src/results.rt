@@ -1,6 +1,6 @@
 //! What is computed of the rows of a group, to which more may join (OData Data Aggregation 4.0, section 3.1.3): nulls are passed over.
-ghost use Rattle.std.specs.Prelude.{◌≡◌, ◌<◌, ◌++◌, ℕ, [], pos, IfOk, List, None, OnOk, length, take};
-ghost use Rattle.std.specs.List.{All};
+ghost use Rattle.std.specs.Prelude.{◌≡◌, ◌<◌, ◌++◌, ℕ, [], pos, IfOk, List, None, OnOk, length, map};
+ghost use Rattle.std.specs.List.{filter_map, All};
 ghost use Rattle.cell_types.specs.Kind.{cell_of};
 ghost use Rattle.cell_types.specs.Value.{CellValue, integer, value_view};
 ghost use Rattle.cell_types.specs.declared.kind.NumberKind.TheVariants.{Decimal, Integer};
@@ -8,11 +8,13 @@ ghost use Rattle.query_meaning.specs.Apply.{computed_value};
 ghost use Rattle.row_columns.specs.Picked.{numbered};
 ghost use Rattle.aggregate_rows.specs.Computed.{better_value};
 ghost use Rattle.aggregate_rows.specs.Sums.{numbers_in, sum_of, MaySum};
-ghost use Rattle.aggregate_rows.specs.Tallies.{distinct_place, HasSet, HaveSets, JoinsSet, MayTally, MayTallyEach, Tallies, TalliesEach};
+ghost use Rattle.aggregate_rows.specs.Distinct.{distinct_place};
+ghost use Rattle.aggregate_rows.specs.Table.{results_of};
+ghost use Rattle.aggregate_rows.specs.Tallies.{JoinsSet, MayTally, MayTallyEach, Tallies, TalliesEach};
 
 use crate::computed::{Extreme, extreme_in, wins};
 use crate::distinct::Distinct;
-use crate::group_row::GroupRow;
+use crate::groups::RowsAt;
 use crate::kept::sum_of_rows;
 use crate::sums::joined_sum;
 use cell_types::{NumberKind, Value, number_in, owned};
@@ -48,92 +50,58 @@ pub(crate) fn result_of_none(aggregate: Aggregate) -> Value<'static>
     }
 }
 
-/// Returns a set of no values for each aggregate that counts distinct ones, at its place; none if no aggregate does.
-pub(crate) fn sets_of_none(
-    alloc: Global,
-    aggregates: &[Aggregate],
-) -> Result<Vec<Option<Box<Distinct>>>, AllocError>
-    ensures { IfOk result (λ sets. HaveSets [] aggregates.now sets.items) }
+/// Returns how many of the aggregates count distinct values.
+pub(crate) fn distinct_count(aggregates: &[Aggregate]) -> usize
+    ensures { result ≡ length (filter_map distinct_place aggregates.now) }
 {
-    for i in 0..aggregates.len() {
-        if distinct_place(aggregates[i]).is_some() {
-            return each_set(alloc, aggregates);
+    let mut count = 0;
+    for aggregate in aggregates {
+        if distinct_place(*aggregate).is_some() {
+            count += 1;
         }
     }
-    Ok(Vec::new(alloc))
+    count
 }
 
-/// Returns a set of no values, or none, for each aggregate.
-fn each_set(
-    alloc: Global,
-    aggregates: &[Aggregate],
-) -> Result<Vec<Option<Box<Distinct>>>, AllocError>
-    ensures { IfOk result (λ sets. HaveSets [] aggregates.now sets.items) }
-{
-    let mut sets = Vec::with_capacity(alloc, aggregates.len())?;
-    for aggregate in aggregates {
-        sets.push(set_of_none(alloc, *aggregate)?)?;
-    }
-    Ok(sets)
-}
-
-/// Returns a set of no values if the aggregate counts distinct ones.
-fn set_of_none(alloc: Global, aggregate: Aggregate) -> Result<Option<Box<Distinct>>, AllocError>
-    ensures { IfOk result (HasSet [] aggregate) }
-{
-    match aggregate {
-        Aggregate::CountDistinct(_) => Ok(Some(Box::new(alloc, Distinct::none(alloc))?)),
-        Aggregate::Count
-        | Aggregate::SumOfIntegers(_)
-        | Aggregate::SumOfDecimals(_)
-        | Aggregate::Min(_)
-        | Aggregate::Max(_) => Ok(None),
-    }
-}
-
-/// Joins the rows with these numbers to those of a group.
+/// Joins rows to those of a group: to those of which its results are computed, and of whose values there are sets.
 pub(crate) fn join_each(
     alloc: Global,
-    group: &mut GroupRow<'static>,
+    results: &mut [Value<'static>],
+    sets: &mut [Distinct],
     aggregates: &[Aggregate],
-    columns: &Columns,
-    numbers: &Selection,
+    rows: RowsAt<'_>,
 ) -> Result<(), AllocError>
-    requires within { All (λ number. number < length columns.now.rows) numbers.now }
-    requires joins { MayTallyEach aggregates.now (length columns.now.kinds) group.old
-        (numbered numbers.now columns.now.rows) }
-    ensures key { take group.new.width group.new.values.items
-        ≡ take group.old.width group.old.values.items }
-    ensures joins { OnOk result (TalliesEach aggregates.now group.old group.new
-        (numbered numbers.now columns.now.rows)) }
+    requires within { All (λ number. number < length rows.columns.now.rows) rows.numbers.now }
+    requires joins { MayTallyEach aggregates.now (length rows.columns.now.kinds)
+        (results_of results.old sets.old)
+        (numbered rows.numbers.now rows.columns.now.rows) }
+    ensures results { length results.new ≡ length results.old }
+    ensures sets { length sets.new ≡ length sets.old }
+    ensures joins { OnOk result (TalliesEach aggregates.now
+        (results_of results.old sets.old)
+        (results_of results.new sets.new)
+        (numbered rows.entry.numbers.now rows.entry.columns.now.rows)) }
 {
-    let width = group.width;
+    let mut set = 0;
     for i in 0..aggregates.len() {
         match distinct_place(aggregates[i]) {
             Some(place) => {
-                let count = join_set(alloc, &mut group.sets[i], columns, numbers, place)?;
-                put(&mut group.values[width + i], count);
+                results[i] = join_set(alloc, &mut sets[set], rows.columns, rows.numbers, place)?;
+                set += 1;
             }
             None => {
-                let value = &mut group.values[width + i];
-                join_value(alloc, value, aggregates[i], columns, numbers)?;
+                let value = &mut results[i];
+                join_value(alloc, value, aggregates[i], rows.columns, rows.numbers)?;
             }
         }
     }
     Ok(())
 }
 
-/// Puts a value in the place of another.
-fn put(value: &mut Value<'static>, other: Value<'static>)
-    ensures { value.new ≡ other.entry }
-{
-    *value = other;
-}
-
 /// Adds the values that the rows with these numbers have in a column. Returns how many there are.
 fn join_set(
     alloc: Global,
-    set: &mut Option<Box<Distinct>>,
+    set: &mut Distinct,
     columns: &Columns,
     numbers: &Selection,
     place: usize,
@@ -143,13 +111,8 @@ fn join_set(
     ensures { IfOk result (JoinsSet place set.old set.new
         (numbered numbers.now columns.now.rows)) }
 {
-    match set {
-        Some(set) => {
-            set.join(alloc, columns, numbers, place)?;
-            Ok(Value::Int(set.values.len() as i128))
-        }
-        None => Ok(Value::Null),
-    }
+    set.join(alloc, columns, numbers, place)?;
+    Ok(Value::Int(set.values.len() as i128))
 }
 
 /// Joins the rows with these numbers to those of which a value is computed.

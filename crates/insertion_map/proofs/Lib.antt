@@ -1,3 +1,4 @@
+mod PartLemmas
 pub mod ListLaws
-mod PlaceLemmas
-mod ChangeLemmas
+mod HashLemmas
+mod KeyLemmas

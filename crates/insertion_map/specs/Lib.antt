@@ -1,1 +1,3 @@
+pub mod Hashes
+pub mod LastPlaces
 pub mod Places

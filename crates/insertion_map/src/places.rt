@@ -1,11 +1,11 @@
 //! The places of keys.
-ghost use Rattle.std.specs.Prelude.{◌≡◌, ◌≤◌, ◌<◌, ◌+◌, ◌-◌, ◌++◌, ◌∷◌, [], false, IfOk, IsOk, OnErr, OnOk, is_some, length, not, position};
-ghost use Rattle.std.specs.Fn.{FnOnceReturnsAtMut, FnOnceTakesAtMut};
+ghost use Rattle.std.specs.Prelude.{◌≡◌, ◌≤◌, ◌<◌, ◌+◌, ◌++◌, ◌∷◌, [], false, IfOk, IsOk, OnErr, OnOk, is_some, length, not, position, slice_index_or};
+ghost use Rattle.std.specs.Hash as fed;
 ghost use Rattle.std.specs.List.{list_any};
-ghost use Rattle.insertion_map.specs.Places.{hash_value, insert_key, IsChanged, IsFromPlace, MayChange};
+ghost use Rattle.insertion_map.specs.Places.{hash_value, insert_key};
 
+use crate::hash_places::HashPlaces;
 use std::alloc::{AllocError, Global};
-use std::collections::HashMap;
 use std::hash::{FoldHasher, Hash, Hasher};
 use std::marker::Model;
 
@@ -13,17 +13,14 @@ use std::marker::Model;
 #[derive(Drop)]
 pub struct KeyPlaces<K: Eq + Hash> {
     keys: Vec<K>,
-    /// The place of the last key with a hash.
-    last: HashMap<u64, usize>,
-    /// For each key the place of the key before it that has the same hash; its own place if none has.
-    before: Vec<usize>,
+    places: HashPlaces,
 }
 
 impl<K: Eq + Hash> Model for KeyPlaces<K> {
     ghost use Rattle.std.specs.Prelude.{◌-◌};
-    ghost use Rattle.std.specs.HashMap.{spare};
     ghost use Rattle.std.specs.Vec.{vec_capacity, vec_len};
-    ghost use Rattle.insertion_map.specs.Places.{KeysOf, keys_of_code, hash_value, least_room, AreChained};
+    ghost use Rattle.insertion_map.specs.Hashes.{less_of};
+    ghost use Rattle.insertion_map.specs.Places.{KeysOf, keys_of_code, hash_value, ArePlaced};
 
     ghost Value = { KeysOf K };
 
@@ -31,11 +28,10 @@ impl<K: Eq + Hash> Model for KeyPlaces<K> {
 
     ghost view = { λ k. record {
       keys = k.keys.items;
-      room = least_room (vec_capacity k.keys - vec_len k.keys)
-          (vec_capacity k.before - vec_len k.keys) (spare k.last);
+      room = less_of (vec_capacity k.keys - vec_len k.keys) k.places.room;
     } };
 
-    ghost invariant = { λ k. AreChained K.eq (λ key. hash_value (K.hash_input key)) k.keys.items k.last.entries k.before.items };
+    ghost invariant = { λ k. ArePlaced K.eq (λ key. hash_value (K.hash_input key)) k.keys.items k.places };
 }
 
 /// Returns the hash of a key.
@@ -47,22 +43,13 @@ fn hash_of<K: Hash>(key: &K) -> u64
     hasher.finish()
 }
 
-/// Returns the place of a key, which is not after `place`. The key at `place` has the same hash.
-fn place_from<K: Eq + Hash>(keys: &[K], before: &[usize], key: &K, place: usize) -> Option<usize>
-    requires within { place < length before.now }
-    requires from { IsFromPlace K.eq (λ key. hash_value (K.hash_input key)) keys.now before.now
-        key.now place }
-    ensures place { result ≡ position (K.eq key.now) keys.now }
-    ensures found { is_some result ≡ list_any (K.eq key.now) keys.now }
+/// Returns the hash of a list of keys.
+pub fn hash_of_items<K: Hash>(items: &[K]) -> u64
+    ensures { result ≡ hash_value (fed.slice K.hash_input items.now) }
 {
-    if *key == keys[place] {
-        return Some(place);
-    }
-    let earlier = before[place];
-    if earlier < place {
-        return place_from(keys, before, key, earlier);
-    }
-    None
+    let mut hasher = FoldHasher::default();
+    items.hash(&mut hasher);
+    hasher.finish()
 }
 
 impl<K: Eq + Hash> KeyPlaces<K> {
@@ -72,8 +59,7 @@ impl<K: Eq + Hash> KeyPlaces<K> {
     {
         KeyPlaces {
             keys: Vec::new(alloc),
-            last: HashMap::new(alloc),
-            before: Vec::new(alloc),
+            places: HashPlaces::new(alloc),
         }
     }
 
@@ -82,10 +68,9 @@ impl<K: Eq + Hash> KeyPlaces<K> {
         ensures keys { IfOk result (λ made. made.keys ≡ []) }
         ensures room { IfOk result (λ made. keys ≤ made.room) }
     {
-        let last = HashMap::with_capacity(alloc, keys)?;
-        let before = Vec::with_capacity(alloc, keys)?;
+        let places = HashPlaces::with_capacity(alloc, keys)?;
         let keys = Vec::with_capacity(alloc, keys)?;
-        Ok(KeyPlaces { keys, last, before })
+        Ok(KeyPlaces { keys, places })
     }
 
     /// Returns the place of a key, if it is among those with this hash.
@@ -94,10 +79,12 @@ impl<K: Eq + Hash> KeyPlaces<K> {
         ensures place { result ≡ position (K.eq key.now) self.now.keys }
         ensures found { is_some result ≡ list_any (K.eq key.now) self.now.keys }
     {
-        match self.last.get(&hash) {
-            Some(last) => place_from(self.keys.as_slice(), self.before.as_slice(), key, *last),
-            None => None,
-        }
+        let keys = self.keys.as_slice();
+        let is_key = |place: usize| -> bool
+            requires { place < length keys.now }
+            ensures { result ≡ K.eq key.entry.now (slice_index_or keys.entry.now place key.entry.now) }
+        { *key == keys[place] };
+        self.places.find(hash, is_key)
     }
 
     /// Puts a key after the others, if it is equal to none of them; whether it was put there.
@@ -129,29 +116,14 @@ impl<K: Eq + Hash> KeyPlaces<K> {
         ensures succeeds { 0 < self.old.room → IsOk result }
         ensures room { self.old.room ≤ self.new.room + 1 }
     {
-        let place = self.keys.len();
-        let earlier = self.last.get(&hash).copied().unwrap_or(place);
-        self.before.truncate(place);
-        self.before.push(earlier)?;
         self.keys.push(key)?;
-        match self.last.insert(hash, place) {
-            Ok(_) => Ok(()),
-            Err(_) => {
+        match self.places.push(hash) {
+            Ok(()) => Ok(()),
+            Err(refused) => {
                 let _key = self.keys.pop();
-                Err(AllocError)
+                Err(refused)
             }
         }
-    }
-
-    /// Changes the key at `place` in what is not compared. Returns what `change` returns.
-    pub fn change_at<R, F: FnOnce(&mut K) -> R>(&mut self, place: usize, change: F) -> R
-        requires { MayChange K.eq (FnOnceTakesAtMut F.FnOnce change)
-            (FnOnceReturnsAtMut F.FnOnce change) self.old.keys place }
-        ensures changed { IsChanged (FnOnceReturnsAtMut F.FnOnce change) self.old.keys
-            self.new.keys place result }
-        ensures room { self.new.room ≡ self.old.room }
-    {
-        change(&mut self.keys[place])
     }
 
     /// Returns how many keys there are.

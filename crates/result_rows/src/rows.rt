@@ -43,9 +43,7 @@ fn one_row(alloc: Global, values: &[Value<'_>]) -> Result<Columns, AllocError>
     for value in values {
         row.push(owned(alloc, value)?)?;
     }
-    let mut rows = Vec::new(alloc);
-    rows.push(row)?;
-    Columns::of_rows(alloc, values.len(), rows)
+    Columns::of_values(alloc, values.len(), 1, row)
 }
 
 impl Rows {

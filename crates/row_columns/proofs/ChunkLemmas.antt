@@ -1,5 +1,5 @@
 -- Numbers of rows in chunks.
-use Rattle.std.proofs.Common.{◌≡◌, ℕ, zero, suc, ◌+◌, ◌-◌, ◌<◌, ◌≤◌, ◌^◌, List, [], ◌∷◌, ◌++◌, get_or, length, length-append, map, append_assoc, append-nil, refl, slice_set, sym, ap, subst, ◌∙◌, arith}
+use Rattle.std.proofs.Common.{◌≡◌, ℕ, zero, suc, ◌+◌, ◌-◌, ◌<◌, ◌≤◌, ◌^◌, List, [], ◌∷◌, ◌++◌, get_or, length, length-append, map, append_assoc, append-nil, refl, slice_set, sym, ap, subst, ◌∙◌, arith, add-one}
 use Rattle.std.specs.List.{All}
 use Rattle.std.proofs.lemmas.List.{get_or_append_left, get_or-append-add, get_or-append_right, get_or-map, get_or_read, length-map}
 use Rattle.row_columns.specs.declared.row_numbers.Chunk.{Chunk}
@@ -14,7 +14,7 @@ size c = length-map c.rows (λ row. c.start + row)
 
 pub chunks_push : (chunks : List Chunk) (c : Chunk) → chunked_numbers (chunks ++ c ∷ []) ≡ chunked_numbers chunks ++ chunk_numbers c
 chunks_push [] c = append-nil (chunk_numbers c)
-chunks_push (d ∷ chunks) c = ap (λ ns. chunk_numbers d ++ ns) (chunks_push chunks c) ∙ sym (append_assoc (chunk_numbers d) (chunked_numbers chunks) (chunk_numbers c))
+chunks_push (d ∷ chunks) c = rw (chunks_push chunks c, append_assoc (chunk_numbers d) (chunked_numbers chunks) (chunk_numbers c)) refl
 
 pub counted_push : (n : ℕ) (chunks : List Chunk) (c : Chunk) → AreCounted n chunks → c.before ≡ n + length (chunked_numbers chunks) → AreCounted n (chunks ++ c ∷ [])
 counted_push n [] c counted is = (omega (arith, is), tt)
@@ -30,30 +30,24 @@ first_rows c all = ap (map (λ row. c.start + row)) all ∙ from-start c.start (
 -- one chunk of them
 pub run_of : (chunks : List Chunk) (listed : List ℕ) (c s : Chunk) (count : ℕ) → length chunks ≡ 1 → c ≡ get_or chunks 0 c → s ≡ get_or chunks 0 s → c.rows ≡ numbers_from 0 (length c.rows)
     → listed ≡ [] → count ≡ length (chunked_numbers chunks) → chunked_numbers chunks ++ listed ≡ numbers_from s.start count
-run_of [] listed c s count one at at' all none is = absurd (omega (arith, one))
-run_of (d ∷ e ∷ chunks) listed c s count one at at' all none is = absurd (omega (arith, one))
 run_of (d ∷ []) listed c s count one at at' all none is =
-    let first : chunk_numbers d ≡ numbers_from d.start (length d.rows) = first_rows d (subst (λ (e : Chunk). e.rows ≡ numbers_from 0 (length e.rows)) at all) in
-    let many : length d.rows ≡ count = omega (arith, is, length-append (chunk_numbers d) [], size d) in
-    ap (λ l. (chunk_numbers d ++ []) ++ l) none ∙ append-nil (chunk_numbers d ++ []) ∙ append-nil (chunk_numbers d) ∙ first
-    ∙ ap (numbers_from d.start) many ∙ ap (λ (e : Chunk). numbers_from e.start count) (sym at')
+    let many : count ≡ length d.rows = omega (arith, is, length-append (chunk_numbers d) [], size d) in
+    rw (none, append-nil (chunk_numbers d ++ []), append-nil (chunk_numbers d), at', many) (first_rows d (rw at at all))
+run_of chunks listed c s count one at at' all none is = absurd (omega arith)
 
 -- the first rows of a block that go on from it are of the same chunk
 pub run_more : (chunks : List Chunk) (c b s m : Chunk) (rows : List ℕ) → length chunks ≡ 1 → b ≡ get_or chunks 0 b → s ≡ get_or chunks 0 s → m ≡ get_or chunks 0 m
     → b.rows ≡ numbers_from 0 (length b.rows) → c.rows ≡ numbers_from 0 (length c.rows) → s.start + c.before ≡ c.start → c.before ≡ length (chunked_numbers chunks)
     → rows ≡ numbers_from 0 (c.before + length c.rows)
     → chunked_numbers (slice_set chunks 0 record { before = m.before; start = m.start; rows = rows }) ≡ chunked_numbers chunks ++ chunk_numbers c
-run_more [] c b s m rows one at_b at_s at_m all next goes_on before is = absurd (omega (arith, one))
-run_more (d ∷ e ∷ chunks) c b s m rows one at_b at_s at_m all next goes_on before is = absurd (omega (arith, one))
 run_more (d ∷ []) c b s m rows one at_b at_s at_m all next goes_on before is =
-    let first : chunk_numbers d ≡ numbers_from d.start (length d.rows) = first_rows d (subst (λ (e : Chunk). e.rows ≡ numbers_from 0 (length e.rows)) at_b all) in
+    let first : chunk_numbers d ≡ numbers_from d.start (length d.rows) = first_rows d (rw at_b at all) in
     let many : c.before ≡ length d.rows = omega (arith, before, length-append (chunk_numbers d) [], size d) in
-    let start : d.start + length d.rows ≡ c.start = ap (λ (e : Chunk). e.start + length d.rows) (sym at_s) ∙ ap (λ n. s.start + n) (sym many) ∙ goes_on in
-    append-nil (map (λ row. m.start + row) rows) ∙ ap (λ (e : Chunk). map (λ row. e.start + row) rows) at_m
-    ∙ ap (map (λ row. d.start + row)) (is ∙ ap (λ n. numbers_from 0 (n + length c.rows)) many)
-    ∙ from-start d.start (length d.rows + length c.rows) ∙ sym (from-append d.start (length d.rows) (length c.rows))
-    ∙ ap (λ k. numbers_from d.start (length d.rows) ++ numbers_from k (length c.rows)) start ∙ ap (λ ns. ns ++ numbers_from c.start (length c.rows)) (sym first ∙ sym (append-nil (chunk_numbers d)))
-    ∙ ap (λ ns. (chunk_numbers d ++ []) ++ ns) (sym (first_rows c next))
+    let start : d.start + length d.rows ≡ c.start = ap (λ (e : Chunk). e.start + length d.rows) (sym at_s) ∙ rw (← many) goes_on in
+    append-nil (map (λ row. m.start + row) rows)
+    ∙ rw (at_m, is, many, append-nil (chunk_numbers d), first, first_rows c next, from-start d.start (length d.rows + length c.rows), ← start)
+    (sym (from-append d.start (length d.rows) (length c.rows)))
+run_more chunks c b s m rows one at_b at_s at_m all next goes_on before is = absurd (omega arith)
 
 -- ---- the number at a place
 
@@ -96,13 +90,10 @@ pub chunk_read : (chunks : List Chunk) (i place : ℕ) (c : Chunk) → AreCounte
     → (i + 1 < length chunks → place < (get_or chunks (i + 1) no_chunk).before) → place < length (chunked_numbers chunks) → c ≡ get_or chunks i c
     → (place - c.before < length c.rows) × (c.start + get_or c.rows (place - c.before) 0 < 2 ^ 32) × (get_or (chunked_numbers chunks) place 0 ≡ c.start + get_or c.rows (place - c.before) 0)
 chunk_read chunks i place c counted fit within from next less at =
-    let one : i + 1 ≡ suc i = omega arith in
     let here : place - 0 ≡ place = omega arith in
-    let found = chunk_found 0 chunks i place counted within from (subst (λ k. k < length chunks → place < (get_or chunks k no_chunk).before) one next) (omega (arith, less)) in
-    let d = get_or chunks i no_chunk in
-    let is : get_or (chunked_numbers chunks) place 0 ≡ d.start + get_or d.rows (place - d.before) 0 = ap (λ k. get_or (chunked_numbers chunks) k 0) (sym here) ∙ found.1 in
-    subst (λ (e : Chunk). (place - e.before < length e.rows) × (e.start + get_or e.rows (place - e.before) 0 < 2 ^ 32) × (get_or (chunked_numbers chunks) place 0 ≡ e.start + get_or e.rows (place - e.before) 0))
-    (sym (get_or_read chunks i c within at no_chunk)) (found.0, omega (arith, is, fit place 0 less), is)
+    let found = chunk_found 0 chunks i place counted within from (rw add-one at next) (omega (arith, less)) in
+    let is = rw here at found.1 in
+    rw (get_or_read chunks i c within at no_chunk) (found.0, omega (arith, is, fit place 0 less), is)
 
 -- the numbers of a chunk fit where all do
 pub chunk_fits : (chunks : List Chunk) (i : ℕ) (c : Chunk) → All (λ n. n < 2 ^ 32) (chunked_numbers chunks) → i < length chunks → c ≡ get_or chunks i c → All (λ n. n < 2 ^ 32) (chunk_numbers c)

@@ -33,9 +33,8 @@ all_coded piece col column texts codes inside is some are = (value_of texts code
 
 zip_from : {A : Type 0} (R : A → ℕ → Type 0) (d : A) (xs : List A) (ys : List ℕ) → length xs ≡ length ys → ((i : ℕ) → i < length ys → R (get_or xs i d) (get_or ys i 0)) → AllZip R xs ys
 zip_from R d [] [] long at = tt
-zip_from R d [] (y ∷ ys) long at = absurd (omega (arith, long))
-zip_from R d (x ∷ xs) [] long at = absurd (omega (arith, long))
-zip_from R d (x ∷ xs) (y ∷ ys) long at = (at 0 (omega arith), zip_from R d xs ys (omega (arith, long)) (λ i less. at (suc i) (omega (arith, less))))
+zip_from R d (x ∷ xs) (y ∷ ys) long at = (at 0 (omega arith), zip_from R d xs ys (omega arith) (λ i less. at (suc i) (omega arith)))
+zip_from R d xs ys long at = absurd (omega arith)
 
 -- so all rows of the last block
 pub all_of_last : (pieces : List (List ColumnCells)) (last col : ℕ) (piece : List ColumnCells) (codes numbers : List ℕ) → last < length pieces → piece ≡ get_or pieces last piece

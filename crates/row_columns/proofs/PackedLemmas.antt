@@ -1,5 +1,7 @@
 -- Columns of rows as they are packed.
-use Rattle.std.proofs.Common.{◌≡◌, ℕ, ◌+◌, ◌*◌, ◌/◌, ◌%◌, ◌<◌, ◌≤◌, List, [], Option, None, Some, length, map, get_or, option_copied, sym, ap, ◌∙◌, arith}
+use Rattle.row_selection.proofs.NumberLemmas.{get-from, length-from}
+use Rattle.row_columns.specs.Numbers.{numbers_from}
+use Rattle.std.proofs.Common.{◌≡◌, ℕ, ◌+◌, ◌*◌, ◌/◌, ◌%◌, ◌<◌, ◌≤◌, List, [], Option, None, Some, length, map, get_or, option_copied, sym, ap, ◌∙◌, arith, refl}
 use Rattle.std.specs.Prelude.{IfSome}
 use Rattle.std.specs.Borrow.{Bor}
 use Rattle.std.proofs.lemmas.List.{ext_get_or, get_or-map, get_or_read, length-map}
@@ -27,6 +29,10 @@ pub packed_column : (piece : List ColumnCells) (col : ℕ) (column : ColumnCells
 packed_column piece col column packed inside is e =
     IfSome_then packed (packed_are packed column.kind column.cells e) (λ p same row. ap (λ cells. get_or cells row null) same ∙ cell_of_piece piece col row column inside is)
 
+-- the numbers of the last block
+pub from_last : (first count last : ℕ) → first ≡ last * BLOCK_ROWS → (i : ℕ) → i < length (numbers_from first count) → get_or (numbers_from first count) i 0 ≡ last * BLOCK_ROWS + i
+from_last first count last begins i less = rw (← begins) (get-from first count i (omega (arith, length-from first count)))
+
 -- a row of the last block
 pub row_of_last : (pieces : List (List ColumnCells)) (last : ℕ) (piece : List ColumnCells) (numbers : List ℕ) → last < length pieces → piece ≡ get_or pieces last piece
     → length numbers ≤ BLOCK_ROWS → ((i : ℕ) → i < length numbers → get_or numbers i 0 ≡ last * BLOCK_ROWS + i)
@@ -37,9 +43,7 @@ row_of_last pieces last piece numbers inside at most from i less =
     let is : number ≡ last * BLOCK_ROWS + i = from i less in
     let block : number / BLOCK_ROWS ≡ last = omega (arith, is, less, most) in
     let own : number % BLOCK_ROWS ≡ i = omega (arith, is, less, most) in
-    ap (λ b. piece_row (get_or pieces b none) (number % BLOCK_ROWS)) block
-    ∙ ap (λ (p : List ColumnCells). piece_row p (number % BLOCK_ROWS)) (sym (get_or_read pieces last piece inside at none))
-    ∙ ap (piece_row piece) own
+    rw (block, own, ← (get_or_read pieces last piece inside at none)) refl
 
 -- and the column of all rows of a block
 pub packed_rows : (pieces : List (List ColumnCells)) (last col : ℕ) (piece : List ColumnCells) (cells : List CellValue) (numbers : List ℕ) → last < length pieces → piece ≡ get_or pieces last piece

@@ -1,5 +1,5 @@
 -- The cells of some columns of a block.
-use Rattle.std.proofs.Common.{◌≡◌, ℕ, zero, suc, ◌+◌, ◌<◌, List, [], ◌∷◌, ◌++◌, Option, None, Some, length, take, get_or, option_map, slice_get, refl, sym, ap, ◌∙◌, subst, arith}
+use Rattle.std.proofs.Common.{◌≡◌, ℕ, zero, suc, ◌+◌, ◌<◌, List, [], ◌∷◌, ◌++◌, Option, None, Some, length, take, get_or, option_map, slice_get, refl, sym, ap, subst, arith}
 use Rattle.std.specs.List.{All, AllByRecursion, AllZip}
 use Rattle.std.proofs.lemmas.List.{get_or-map, get_or_read, take_more}
 use Rattle.std.proofs.lemmas.Option.{same_Some}
@@ -14,7 +14,7 @@ use Rattle.cell_types.specs.Column.{ColumnOf}
 use Rattle.cell_types.specs.Datatype as datatype
 use Rattle.cell_types.specs.Datatype.{DatatypeOf}
 use Rattle.cell_types.specs.Laws.{IsOfColumn, IsOfDatatype}
-use Rattle.cell_types.specs.Value.{CellValue, null, integer, text, boolean, date, decimal}
+use Rattle.cell_types.specs.Value.{CellValue, null, text}
 use Rattle.table_store.specs.Block.{typed_cells_of}
 use Rattle.table_store.specs.Fits.{HasTableRows, IsTableRow}
 use Rattle.table_store.specs.Table.{TableOf}
@@ -35,8 +35,7 @@ AreShared block places columns = AllZip (IsShared block) places columns
 pub shared_more : (block : TableOf) (places : List ℕ) (i : ℕ) (columns next : List ColumnCells) (column : ColumnCells) → i < length places
     → IsShared block (get_or places i 0) column → next ≡ columns ++ column ∷ [] → AreShared block (take i places) columns → AreShared block (take (i + 1) places) next
 shared_more block places i columns next column h is e so_far =
-    subst (AreShared block (take (i + 1) places)) (sym e)
-    (subst (λ ps. AreShared block ps (columns ++ column ∷ [])) (sym (take_more places i 0 h)) (all_zipped_more (IsShared block) (take i places) columns (get_or places i 0) column so_far is))
+    rw (e, take_more places i 0 h) (all_zipped_more (IsShared block) (take i places) columns (get_or places i 0) column so_far is)
 
 -- each has the cells of its column
 typed_of : (o : Option ColumnOf) (cells : List CellValue) (column : ColumnCells) → Some column ≡ option_map (λ (c : ColumnOf). typed_cells c cells) o → column.cells ≡ cells
@@ -50,30 +49,19 @@ shared_cells block place column is = typed_of (slice_get block.schema.columns pl
 pub shared_row : (block : TableOf) (places : List ℕ) (columns : List ColumnCells) (row : ℕ) → AreShared block places columns
     → piece_row columns row ≡ values_at places (get_or block.rows row [])
 shared_row block [] [] row are = refl
-shared_row block [] (c ∷ columns) row are = absurd are
-shared_row block (p ∷ places) [] row are = absurd are
 shared_row block (p ∷ places) (c ∷ columns) row are =
-    let values : List CellValue = get_or block.rows row [] in
-    let first : get_or c.cells row null ≡ get_or values p null =
-    ap (λ cells. get_or cells row null) (shared_cells block p c are.0) ∙ get_or-map_default (λ (vs : List CellValue). get_or vs p null) block.rows row [] in
-    ap (λ v. v ∷ piece_row columns row) first ∙ ap (λ vs. get_or values p null ∷ vs) (shared_row block places columns row are.1)
+    rw (shared_cells block p c are.0, get_or-map_default (λ (vs : List CellValue). get_or vs p null) block.rows row [], shared_row block places columns row are.1) refl
+shared_row block places columns row are = absurd are
 
 -- ---- no numbers are texts
 
 no_text_of : (d : DatatypeOf) (kind : NumberKind) (t : List ℕ) → Number kind ≡ kind_of d → IsOfDatatype d (text t) → ⊥
-no_text_of datatype.integer kind t e h = h
 no_text_of datatype.text kind t e h = cc
-no_text_of (datatype.boolean of_true of_false) kind t e h = h
-no_text_of (datatype.date form) kind t e h = h
-no_text_of datatype.decimal kind t e h = h
+no_text_of d kind t e h = h
 
 no_text : (c : ColumnOf) (kind : NumberKind) (v : CellValue) → Number kind ≡ kind_of c.datatype → IsOfColumn c v → IsNoText v
-no_text c kind null e h = tt
-no_text c kind (integer n) e h = tt
 no_text c kind (text t) e h = absurd (no_text_of c.datatype kind t e h)
-no_text c kind (boolean b) e h = tt
-no_text c kind (date y m d) e h = tt
-no_text c kind (decimal n) e h = tt
+no_text c kind v e h = tt
 
 value_there : (columns : List ColumnOf) (place : ℕ) (c : ColumnOf) (row : List CellValue) → slice_get columns place ≡ Some c → IsTableRow columns row → IsOfColumn c (get_or row place null)
 value_there [] place c row at h = absurd (cc)
@@ -97,15 +85,13 @@ column_alone : (o : Option ColumnOf) (columns : List ColumnOf) (place : ℕ) (ro
     → Some column ≡ option_map (λ (c : ColumnOf). typed_cells c (column_of rows place)) o → HasTextsAlone column.kind column.cells
 column_alone None columns place rows column at all e = absurd (cc)
 column_alone (Some c) columns place rows column at all e =
-    subst (λ (k : ColumnCells). HasTextsAlone k.kind k.cells) (sym (same_Some column (typed_cells c (column_of rows place)) e))
-    (texts_by (kind_of c.datatype) (column_of rows place) (λ t is. cells_alone columns place c rows at all (λ v. no_text c t v (sym is))))
+    rw (same_Some column (typed_cells c (column_of rows place)) e) (texts_by (kind_of c.datatype) (column_of rows place) (λ t is. cells_alone columns place c rows at all (λ v. no_text c t v (sym is))))
 
 pub shared_alone : (block : TableOf) (places : List ℕ) (columns : List ColumnCells) → HasTableRows block → AreShared block places columns → HaveTextsAlone columns
 shared_alone block [] [] fit are = tt
-shared_alone block [] (c ∷ columns) fit are = absurd are
-shared_alone block (p ∷ places) [] fit are = absurd are
 shared_alone block (p ∷ places) (c ∷ columns) fit are =
     (column_alone (slice_get block.schema.columns p) block.schema.columns p block.rows c refl fit.each are.0, shared_alone block places columns fit are.1)
+shared_alone block places columns fit are = absurd are
 
 -- ---- the texts of a column
 
@@ -118,8 +104,7 @@ text_cells (Number t) cells texts e = absurd (cc)
 pub cell_of_piece : (piece : List ColumnCells) (col row : ℕ) (column : ColumnCells) → col < length piece → column ≡ get_or piece col column
     → get_or column.cells row null ≡ get_or (piece_row piece row) col null
 cell_of_piece piece col row column h is =
-    let cell : ColumnCells → CellValue = λ (c : ColumnCells). get_or c.cells row null in
-    ap cell (get_or_read piece col column h is no_cells) ∙ sym (get_or-map cell piece col no_cells null h)
+    rw (get_or-map (λ (c : ColumnCells). get_or c.cells row null) piece col no_cells null h, ← (get_or_read piece col column h is no_cells)) refl
 
 -- some columns of others have texts alone where these have
 pub picked_alone : (places : List ℕ) (piece : List ColumnCells) → HaveTextsAlone piece → HaveTextsAlone (piece_at places piece)
@@ -135,5 +120,4 @@ picked_alone (p ∷ places) piece all = (alone_or_none piece p all, picked_alone
 pub picked_row : (places : List ℕ) (piece : List ColumnCells) (row : ℕ) → piece_row (piece_at places piece) row ≡ values_at places (piece_row piece row)
 picked_row [] piece row = refl
 picked_row (p ∷ places) piece row =
-    let first : get_or (get_or piece p no_cells).cells row null ≡ get_or (piece_row piece row) p null = sym (get_or-map_default (λ (c : ColumnCells). get_or c.cells row null) piece p no_cells) in
-    ap (λ v. v ∷ piece_row (piece_at places piece) row) first ∙ ap (λ vs. get_or (piece_row piece row) p null ∷ vs) (picked_row places piece row)
+    rw (get_or-map_default (λ (c : ColumnCells). get_or c.cells row null) piece p no_cells, picked_row places piece row) refl

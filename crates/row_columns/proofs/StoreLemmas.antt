@@ -1,5 +1,5 @@
 -- Where rows stand.
-use Rattle.std.proofs.Common.{◌≡◌, ◌==◌, false, ℕ, zero, suc, ◌+◌, ◌*◌, ◌/◌, ◌%◌, ◌<◌, List, [], ◌∷◌, ◌++◌, Vec, Global, length, map, take, get_or, refl, sym, ap, ◌∙◌, subst, arith}
+use Rattle.std.proofs.Common.{◌≡◌, ◌==◌, false, ℕ, zero, suc, ◌+◌, ◌*◌, ◌/◌, ◌%◌, ◌<◌, List, [], ◌∷◌, ◌++◌, Vec, Global, length, map, take, get_or, refl, sym, ap, ◌∙◌, arith}
 use Rattle.std.specs.Prelude.{replicate}
 use Rattle.std.specs.List.{AllByRecursion}
 use Rattle.std.proofs.lemmas.Bool.{false≢true}
@@ -10,16 +10,16 @@ use Rattle.block_summary.specs.declared.block.TheConstants.{BLOCK_ROWS}
 use Rattle.cell_types.specs.declared.kind.ColumnKind.{ColumnKind}
 use Rattle.cell_types.specs.Column.{column_view}
 use Rattle.cell_types.specs.Datatype.{datatype_view}
-use Rattle.cell_types.specs.Value.{CellValue, null, value_view}
+use Rattle.cell_types.specs.Value.{CellValue, null}
 use Rattle.cell_types.specs.declared.column.Column.{Column}
-use Rattle.cell_types.specs.declared.value.Value.{Value}
 use Rattle.column_blocks.specs.ColumnCells.{ColumnCells}
 use Rattle.row_columns.specs.declared.store.Store.{Store}
 use Rattle.row_columns.specs.declared.store.Store.TheVariants.{Blocks, Values}
 use Rattle.row_columns.specs.Kinds.{any, kinds_of, of_kind, KindOf}
 use Rattle.row_columns.specs.Picked.{kinds_at, values_at}
 use Rattle.row_columns.specs.Piece.{piece_at, piece_row}
-use Rattle.row_columns.specs.Store.{end_of, numbered_row, value_rows, stored_kinds, stored_row, IsPicked, IsStoredWide}
+use Rattle.row_columns.specs.Store.{end_of, numbered_row, stored_kinds, stored_row, IsPicked, IsStoredWide}
+use Rattle.value_rows.specs.ValueRows.{ValueRowsOf}
 use Rattle.row_columns.proofs.PieceLemmas.{picked_row}
 
 -- ---- the kinds of columns
@@ -35,14 +35,11 @@ kind_at_more columns places i column made kind h within at is so_far =
     let own : Column → KindOf = λ (c : Column). of_kind (kind_of (datatype_view c.datatype)) in
     let here : of_kind kind ≡ get_or kinds place any =
     ap of_kind is ∙ ap own at ∙ sym (get_or-map own columns place column any within) ∙ ap (λ ks. get_or ks place any) (both columns) in
-    map_push of_kind made kind
-    ∙ ap (λ ks. ks ++ of_kind kind ∷ []) so_far
-    ∙ ap (λ k. kinds_at (take i places) kinds ++ k ∷ []) here
-    ∙ sym (map_more (λ place. get_or kinds place any) places i 0 h)
+    rw (map_push of_kind made kind, so_far, here, map_more (λ place. get_or kinds place any) places i 0 h) refl
   where
     both : (cs : List Column) → map (λ (c : Column). of_kind (kind_of (datatype_view c.datatype))) cs ≡ kinds_of (map column_view cs)
     both [] = refl
-    both (c ∷ cs) = ap (λ ks. of_kind (kind_of (datatype_view c.datatype)) ∷ ks) (both cs)
+    both (c ∷ cs) = rw (both cs) refl
 
 -- ---- a row
 
@@ -56,33 +53,19 @@ pub piece_wide : (pieces : List (List ColumnCells)) (width number : ℕ) (piece 
 piece_wide pieces width number piece wide h at =
     ap (λ (p : List ColumnCells). length p) at ∙ All-from_recursion (λ (p : List ColumnCells). length p ≡ width) pieces wide number piece h
 
-pub row_of_values : (rows : List (Vec Value Global)) (number : ℕ) (row : Vec Value Global) → number < length rows → row ≡ get_or rows number row
-    → map value_view row.items ≡ get_or (value_rows rows) number []
-row_of_values rows number row h at =
-    ap (λ (r : Vec Value Global). map value_view r.items) at ∙ sym (get_or-map (λ (r : Vec Value Global). map value_view r.items) rows number row [] h)
-
-pub row_long : (width : ℕ) (rows : List (Vec Value Global)) (number : ℕ) (row : Vec Value Global) → AllByRecursion (λ (r : List CellValue). length r ≡ width) (value_rows rows)
-    → number < length rows → row ≡ get_or rows number row → length row.items ≡ width
-row_long width rows number row wide h at =
-    let inside : number < length (value_rows rows) = omega (arith, h, length-map rows (λ (r : Vec Value Global). map value_view r.items)) in
-    sym (length-map row.items value_view) ∙ ap (λ (r : List CellValue). length r) (row_of_values rows number row h at)
-    ∙ All-from_recursion (λ (r : List CellValue). length r ≡ width) (value_rows rows) wide number [] inside
-
 -- a value of a row
 module _ (store : Store) (number col : ℕ) (less : number < end_of store) where
   pub value_of_piece : (kinds : Vec ColumnKind Global) (pieces : Vec (List ColumnCells) Global) → store ≡ Blocks kinds pieces → (piece : List ColumnCells)
       → piece ≡ get_or pieces.items (number / BLOCK_ROWS) piece → get_or (piece_row piece (number % BLOCK_ROWS)) col null ≡ get_or (stored_row store number) col null
   value_of_piece kinds pieces is piece at =
-      let here : number < end_of (Blocks kinds pieces) = subst (λ (s : Store). number < end_of s) is less in
-      ap (λ (r : List CellValue). get_or r col null) (row_of_piece pieces.items number piece (omega (arith, here)) at) ∙ ap (λ (s : Store). get_or (stored_row s number) col null) (sym is)
+      let here : number < end_of (Blocks kinds pieces) = rw is at less in rw (is, row_of_piece pieces.items number piece (omega (arith, here)) at) refl
 
-  pub value_inside : (width : ℕ) (rows : Vec (Vec Value Global) Global) → store ≡ Values width rows → (row : Vec Value Global) → row ≡ get_or rows.items number row → IsStoredWide store
-      → col < length (stored_kinds store) → col < length row.items
-  value_inside width rows is row at wide inside =
-      let all : IsStoredWide (Values width rows) = subst IsStoredWide is wide in
-      let here : number < end_of (Values width rows) = subst (λ (s : Store). number < end_of s) is less in
-      let within : col < length (stored_kinds (Values width rows)) = subst (λ (s : Store). col < length (stored_kinds s)) is inside in
-      omega (arith, within, length-replicate width any, row_long width rows.items number row all here at)
+  pub value_inside : (rows : ValueRowsOf) → store ≡ Values rows → col < length (stored_kinds store) → col < rows.width
+  value_inside rows is inside =
+      omega (arith, rw is at inside, length-replicate rows.width any)
+
+pub kinds_long : (store : Store) (rows : ValueRowsOf) → store ≡ Values rows → length (stored_kinds store) ≡ rows.width
+kinds_long store rows is = ap (λ (s : Store). length (stored_kinds s)) is ∙ length-replicate rows.width any
 
 pub some_there : (n : ℕ) → (n == 0) ≡ false → 0 < n
 some_there zero e = absurd (false≢true (sym e))
@@ -96,9 +79,7 @@ stored_wide (Blocks kinds pieces) number wide h =
     length-map piece (λ (c : ColumnCells). get_or c.cells (number % BLOCK_ROWS) null)
     ∙ All-from_recursion (λ (p : List ColumnCells). length p ≡ length kinds.items) pieces.items wide (number / BLOCK_ROWS) [] inside
     ∙ sym (length-map kinds.items of_kind)
-stored_wide (Values width rows) number wide h =
-    let inside : number < length (value_rows rows.items) = omega (arith, h, length-map rows.items (λ (r : Vec Value Global). map value_view r.items)) in
-    All-from_recursion (λ (r : List CellValue). length r ≡ width) (value_rows rows.items) wide number [] inside ∙ sym (length-replicate width any)
+stored_wide (Values rows) number wide h = All-from_recursion (λ (r : List CellValue). length r ≡ rows.width) rows.rows wide number [] h ∙ sym (length-replicate rows.width any)
 
 -- ---- some columns
 
@@ -109,7 +90,7 @@ any_at (suc width) (suc place) = any_at width place
 
 any_kinds : (width : ℕ) (places : List ℕ) → replicate (length places) any ≡ kinds_at places (replicate width any)
 any_kinds width [] = refl
-any_kinds width (place ∷ places) = ap (λ k. k ∷ replicate (length places) any) (sym (any_at width place)) ∙ ap (λ ks. get_or (replicate width any) place any ∷ ks) (any_kinds width places)
+any_kinds width (place ∷ places) = rw (any_at width place, any_kinds width places) refl
 
 pieces_wide : (width : ℕ) (places : List ℕ) (pieces : List (List ColumnCells)) → length places ≡ width → AllByRecursion (λ (p : List ColumnCells). length p ≡ width) (map (piece_at places) pieces)
 pieces_wide width places [] e = tt
@@ -125,29 +106,18 @@ pub blocks_picked : (places : List ℕ) (kinds made : Vec ColumnKind Global) (pi
 blocks_picked places kinds made pieces new kinds_are is = record {
   kinds = kinds_are;
   end = ap (λ (ps : List (List ColumnCells)). length ps * BLOCK_ROWS) is ∙ ap (λ n. n * BLOCK_ROWS) (length-map pieces.items (piece_at places));
-  wide = subst (AllByRecursion (λ (p : List ColumnCells). length p ≡ length made.items)) (sym is)
-      (pieces_wide (length made.items) places pieces.items (sym (length-map places _) ∙ sym (ap length kinds_are) ∙ length-map made.items of_kind));
+  wide = rw is (pieces_wide (length made.items) places pieces.items (sym (length-map places _) ∙ sym (ap length kinds_are) ∙ length-map made.items of_kind));
   rows = λ number h. row number (omega (arith, h));
 }
   where
     row : (number : ℕ) → number / BLOCK_ROWS < length pieces.items → numbered_row new.items number ≡ values_at places (numbered_row pieces.items number)
     row number h =
-        ap (λ (ps : List (List ColumnCells)). piece_row (get_or ps (number / BLOCK_ROWS) []) (number % BLOCK_ROWS)) is
-        ∙ ap (λ (p : List ColumnCells). piece_row p (number % BLOCK_ROWS)) (get_or-map (piece_at places) pieces.items (number / BLOCK_ROWS) [] [] h)
-        ∙ picked_row places (get_or pieces.items (number / BLOCK_ROWS) []) (number % BLOCK_ROWS)
+        rw (is, get_or-map (piece_at places) pieces.items (number / BLOCK_ROWS) [] [] h) (picked_row places (get_or pieces.items (number / BLOCK_ROWS) []) (number % BLOCK_ROWS))
 
-pub values_picked : (places : List ℕ) (width : ℕ) (rows new : Vec (Vec Value Global) Global) → value_rows new.items ≡ map (values_at places) (value_rows rows.items)
-    → IsPicked places (Values width rows) (Values (length places) new)
-values_picked places width rows new is = record {
-  kinds = any_kinds width places;
-  end = sym (many new.items) ∙ ap length is ∙ length-map (value_rows rows.items) (values_at places) ∙ many rows.items;
-  wide = subst (AllByRecursion (λ (r : List CellValue). length r ≡ length places)) (sym is) (rows_wide places (value_rows rows.items));
-  rows = λ number h. row number (omega (arith, h, many rows.items));
+pub values_picked : (places : List ℕ) (rows new : ValueRowsOf) → new.width ≡ length places → new.rows ≡ map (values_at places) rows.rows → IsPicked places (Values rows) (Values new)
+values_picked places rows new width is = record {
+  kinds = ap (λ n. replicate n any) width ∙ any_kinds rows.width places;
+  end = ap length is ∙ length-map rows.rows (values_at places);
+  wide = rw (is, width) (rows_wide places rows.rows);
+  rows = λ number h. rw is (get_or-map (values_at places) rows.rows number [] [] h);
 }
-  where
-    many : (rs : List (Vec Value Global)) → length (value_rows rs) ≡ length rs
-    many rs = length-map rs (λ (r : Vec Value Global). map value_view r.items)
-
-    row : (number : ℕ) → number < length (value_rows rows.items) → get_or (value_rows new.items) number [] ≡ values_at places (get_or (value_rows rows.items) number [])
-    row number h =
-        ap (λ (rs : List (List CellValue)). get_or rs number []) is ∙ get_or-map (values_at places) (value_rows rows.items) number [] [] h

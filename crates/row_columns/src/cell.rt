@@ -1,10 +1,12 @@
 //! Cells, as they are kept.
-ghost use Rattle.std.specs.Prelude.{◌≡◌, slice_index_or};
+ghost use Rattle.std.specs.Prelude.{◌≡◌, IsTrue, option_map, slice_index_or};
 ghost use Rattle.block_summary.specs.Types.{cells_of_kind, numbers_of};
 ghost use Rattle.cell_types.specs.Kind.{cell_of};
 ghost use Rattle.cell_types.specs.declared.kind.NumberKind.TheVariants as kinds;
 ghost use Rattle.cell_types.specs.Value.{null, value_view};
 ghost use Rattle.row_columns.specs.Cell.{cell_view, IsDayOrNull};
+ghost use Rattle.row_columns.specs.Text.{text_of_cell};
+ghost use Rattle.text_columns.specs.PlainParts.{IsPlainCell};
 
 use block_summary::PackedColumn;
 use cell_types::{NumberKind, Value};
@@ -111,5 +113,26 @@ pub(crate) fn cell_in(cells: &BlockCells, row: usize) -> Cell<'_>
     match cells.texts() {
         Some(texts) => text_cell(&texts, row),
         None => Cell::Null,
+    }
+}
+
+/// Returns true if each byte of the text of a row of a block is known to stand for itself, in JSON or in CSV.
+#[inline(always)]
+pub(crate) fn is_plain_in<const JSON: bool>(cells: &BlockCells, row: usize) -> bool
+    ensures { IsTrue result → IsPlainCell JSON (slice_index_or cells.now.cells row null) }
+{
+    match cells.texts() {
+        Some(texts) => row < texts.len() && texts.is_plain::<JSON>(row, 1),
+        None => false,
+    }
+}
+
+/// Returns the text of a value, or `None` if it is null, or no text.
+pub(crate) fn text_of<'a>(value: &'a Value<'static>) -> Option<&'a str>
+    ensures { option_map (λ t. t.now) result ≡ text_of_cell (value_view value.now) }
+{
+    match value {
+        Value::Text(text) => Some(text.as_str()),
+        _ => None,
     }
 }

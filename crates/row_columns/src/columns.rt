@@ -1,6 +1,6 @@
 //! Columns of values.
-ghost use Rattle.std.specs.Prelude.{◌≡◌, ◌+◌, ◌++◌, ◌^◌, [], ◌<◌, ◌≤◌, ℕ, IfOk, IfSome, OnErr, OnOk, Some, length, map, option_and_then, option_map, replicate, slice_get, slice_index_or};
-ghost use Rattle.std.specs.List.{All, AllByRecursion};
+ghost use Rattle.std.specs.Prelude.{◌≡◌, ◌+◌, ◌*◌, ◌++◌, ◌^◌, [], ◌<◌, ◌≤◌, ℕ, IfOk, IfSome, OnErr, OnOk, Some, length, map, option_and_then, option_map, replicate, slice_get, slice_index_or};
+ghost use Rattle.std.specs.List.{All};
 ghost use Rattle.block_summary.specs.Ranges.{column_of};
 ghost use Rattle.cell_types.specs.Column.{column_view};
 ghost use Rattle.cell_types.specs.Value.{value_view, null};
@@ -8,8 +8,8 @@ ghost use Rattle.row_columns.specs.Codes.{HaveCodes};
 ghost use Rattle.row_columns.specs.Columns.{no_columns};
 ghost use Rattle.row_columns.specs.Kinds.{any, kinds_of};
 ghost use Rattle.row_columns.specs.Picked.{kinds_at, numbered, values_at};
-ghost use Rattle.row_columns.specs.Store.{value_rows};
 ghost use Rattle.row_columns.specs.Text.{text_of_cell};
+ghost use Rattle.value_rows.specs.ValueRows.{rows_of};
 
 use crate::row_numbers::RowNumbers;
 use crate::row_ref::RowRef;
@@ -21,6 +21,7 @@ use std::alloc::{AllocError, Global};
 use std::marker::Model;
 use std::mem;
 use table_store::Block;
+use value_rows::ValueRows;
 
 /// Rows of values, one of the kind of each column. Of the rows of a block their numbers are kept, beside the block.
 #[derive(Drop)]
@@ -83,19 +84,22 @@ impl Columns {
         })
     }
 
-    /// Returns rows of `width` values of any kind.
-    pub fn of_rows(
+    /// Returns `count` rows of `width` values of any kind, given one after another. Values after these are of no row.
+    pub fn of_values(
         alloc: Global,
         width: usize,
-        rows: Vec<Vec<Value<'static>>>,
+        count: usize,
+        values: Vec<Value<'static>>,
     ) -> Result<Columns, AllocError>
-        requires { AllByRecursion (λ row. length row ≡ width) (value_rows rows.items) }
-        ensures { IfOk result (λ made.
-            made ≡ record { kinds = replicate width any; rows = value_rows rows.entry.items }) }
+        requires { count * width ≤ length values.items }
+        ensures { IfOk result (λ made. made ≡ record {
+          kinds = replicate width any;
+          rows = rows_of width count (map value_view values.entry.items);
+        }) }
     {
-        let numbers = RowNumbers::first(alloc, rows.len())?;
+        let numbers = RowNumbers::first(alloc, count)?;
         Ok(Columns {
-            store: Store::Values(width, rows),
+            store: Store::Values(ValueRows::of(width, count, values)),
             numbers,
         })
     }

@@ -9,8 +9,6 @@ mod piece;
 mod row_numbers;
 mod row_ref;
 mod store;
-mod turns;
-mod value_rows;
 
 pub use block_rows::{BlockRows, ColumnPart, PartCells};
 pub use cell::{Cell, number_cell, text_cell};

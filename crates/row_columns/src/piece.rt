@@ -1,5 +1,5 @@
 //! The cells of some columns of a block, which are shared with its table.
-ghost use Rattle.std.specs.Prelude.{◌≡◌, ◌<◌, ℕ, [], IfOk, IfSome, get_or, length, map, option_map, slice_index_or};
+ghost use Rattle.std.specs.Prelude.{◌≡◌, ◌<◌, ℕ, [], IfOk, IfSome, IsTrue, get_or, length, map, option_map, slice_index_or};
 ghost use Rattle.std.specs.List.{All};
 ghost use Rattle.cell_types.specs.Value.{null, value_view};
 ghost use Rattle.row_columns.specs.Cell.{cell_view};
@@ -7,8 +7,9 @@ ghost use Rattle.row_columns.specs.Codes.{HaveCodesAt};
 ghost use Rattle.row_columns.specs.Picked.{values_at};
 ghost use Rattle.row_columns.specs.Piece.{no_cells, piece_at, piece_row};
 ghost use Rattle.row_columns.specs.Text.{text_of_cell};
+ghost use Rattle.text_columns.specs.PlainParts.{IsPlainCell};
 
-use crate::cell::{Cell, cell_in};
+use crate::cell::{Cell, cell_in, is_plain_in};
 use block_summary::PackedColumn;
 use cell_types::Value;
 use column_blocks::BlockCells;
@@ -71,6 +72,16 @@ impl Piece {
         ensures { cell_view result ≡ slice_index_or (piece_row self.now row) col null }
     {
         cell_in(&self.columns[col], row)
+    }
+
+    /// Returns true if each byte of the text of a row and a column is known to stand for itself, in JSON or in CSV.
+    #[inline(always)]
+    pub(crate) fn is_plain<const JSON: bool>(&self, row: usize, col: usize) -> bool
+        requires { col < length self.now }
+        ensures { IsTrue result
+            → IsPlainCell JSON (slice_index_or (piece_row self.now row) col null) }
+    {
+        is_plain_in::<JSON>(&self.columns[col], row)
     }
 
     /// Returns the text of a row and a column, or `None` if the value is null, or no text, and past the rows.

@@ -168,19 +168,6 @@ impl RowNumbers {
         Some((self.chunks[0].start, self.count))
     }
 
-    /// Returns true if each is greater than the one before it. So it is if none is listed; if only some are, it is not looked for, and the answer is no.
-    pub(crate) fn rise(&self) -> bool {
-        if self.listed.is_empty() {
-            return true;
-        }
-        let mut rise = self.count == 0;
-        let listed = self.listed.as_slice();
-        for i in 1..listed.len() {
-            rise = rise & (listed[i - 1] < listed[i]);
-        }
-        rise
-    }
-
     /// Appends the selected rows, each number greater by `start`. If memory ran out, not all of them are there.
     pub(crate) fn append(
         &mut self,

@@ -1,8 +1,9 @@
 //! One row of columns.
-ghost use Rattle.std.specs.Prelude.{◌≡◌, ◌<◌, Some, length, slice_get};
-ghost use Rattle.cell_types.specs.Value.{value_view};
+ghost use Rattle.std.specs.Prelude.{◌≡◌, ◌<◌, IsTrue, Some, length, slice_get, slice_index_or};
+ghost use Rattle.cell_types.specs.Value.{null, value_view};
 ghost use Rattle.row_columns.specs.Cell.{cell_view};
 ghost use Rattle.row_columns.specs.Store.{end_of, stored_row, IsStoredWide};
+ghost use Rattle.text_columns.specs.PlainParts.{IsPlainCell};
 
 use crate::cell::Cell;
 use crate::store::Store;
@@ -55,5 +56,14 @@ impl<'a> RowRef<'a> {
         ensures { slice_get self.now col ≡ Some (cell_view result) }
     {
         self.store.cell(self.number, col)
+    }
+
+    /// Returns true if each byte of the text in a column, counted from 0, is known to stand for itself, in JSON or in CSV.
+    #[inline(always)]
+    pub fn is_plain<const JSON: bool>(&self, col: usize) -> bool
+        requires { col < length self.now }
+        ensures { IsTrue result → IsPlainCell JSON (slice_index_or self.now col null) }
+    {
+        self.store.is_plain::<JSON>(self.number, col)
     }
 }

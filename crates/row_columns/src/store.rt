@@ -1,5 +1,5 @@
 //! Where rows stand.
-ghost use Rattle.std.specs.Prelude.{◌≡◌, ◌+◌, ◌<◌, ◌≤◌, ◌^◌, [], IfOk, IfSome, length, map, option_map, slice_index_or};
+ghost use Rattle.std.specs.Prelude.{◌≡◌, ◌+◌, ◌<◌, ◌≤◌, ◌^◌, [], IfOk, IfSome, IsTrue, length, map, option_map, slice_index_or};
 ghost use Rattle.std.specs.List.{All};
 ghost use Rattle.block_summary.specs.Ranges.{column_of};
 ghost use Rattle.cell_types.specs.Column.{column_view};
@@ -12,15 +12,16 @@ ghost use Rattle.row_columns.specs.Picked.{kinds_at, numbered, values_at};
 ghost use Rattle.row_columns.specs.Piece.{piece_at};
 ghost use Rattle.row_columns.specs.Store.{end_of, stored_kinds, stored_row, IsPicked, IsStoredWide, HasTakenRows};
 ghost use Rattle.row_columns.specs.Text.{text_of_cell};
+ghost use Rattle.text_columns.specs.PlainParts.{IsPlainCell};
 
-use crate::cell::Cell;
+use crate::cell::{Cell, text_of};
 use crate::piece::Piece;
-use crate::value_rows::{rows_picked, rows_taken, text_of};
 use block_summary::{BLOCK_ROWS, PackedColumn};
 use cell_types::{Column, ColumnKind, Value, lent};
 use row_selection::Selection;
 use std::alloc::{AllocError, Global};
 use table_store::Block;
+use value_rows::ValueRows;
 
 /// How many numbers 32 bits tell.
 const NUMBERS: usize = 1 << 32;
@@ -33,8 +34,8 @@ const MOST_PIECES: usize = 1 << 20;
 pub(crate) enum Store {
     /// In blocks that are shared with their table. Of each column its kind is known.
     Blocks(Vec<ColumnKind>, Vec<Piece>),
-    /// Beside one another, each with a number of values of any kind.
-    Values(usize, Vec<Vec<Value<'static>>>),
+    /// As values of any kind.
+    Values(ValueRows),
 }
 
 /// Returns the kind of each column.
@@ -115,7 +116,7 @@ impl Store {
     {
         match self {
             Store::Blocks(kinds, _) => kinds.len(),
-            Store::Values(width, _) => *width,
+            Store::Values(rows) => rows.width(),
         }
     }
 
@@ -129,7 +130,7 @@ impl Store {
     {
         match self {
             Store::Blocks(_, pieces) => pieces[number / BLOCK_ROWS].value(number % BLOCK_ROWS, col),
-            Store::Values(_, rows) => lent(&rows[number][col]),
+            Store::Values(rows) => lent(rows.value(number, col)),
         }
     }
 
@@ -143,7 +144,24 @@ impl Store {
     {
         match self {
             Store::Blocks(_, pieces) => pieces[number / BLOCK_ROWS].cell(number % BLOCK_ROWS, col),
-            Store::Values(_, rows) => Cell::Value(&rows[number][col]),
+            Store::Values(rows) => Cell::Value(rows.value(number, col)),
+        }
+    }
+
+    /// Returns true if each byte of the text of the row with a number is known to stand for itself, in JSON or in CSV.
+    #[inline(always)]
+    pub(crate) fn is_plain<const JSON: bool>(&self, number: usize, col: usize) -> bool
+        requires wide { IsStoredWide self.now }
+        requires number { number < end_of self.now }
+        requires col { col < length (stored_kinds self.now) }
+        ensures { IsTrue result
+            → IsPlainCell JSON (slice_index_or (stored_row self.now number) col null) }
+    {
+        match self {
+            Store::Blocks(_, pieces) => {
+                pieces[number / BLOCK_ROWS].is_plain::<JSON>(number % BLOCK_ROWS, col)
+            }
+            Store::Values(_) => false,
         }
     }
 
@@ -158,7 +176,7 @@ impl Store {
     {
         match self {
             Store::Blocks(_, pieces) => pieces[number / BLOCK_ROWS].text(number % BLOCK_ROWS, col),
-            Store::Values(_, rows) => text_of(&rows[number][col]),
+            Store::Values(rows) => text_of(rows.value(number, col)),
         }
     }
 
@@ -225,10 +243,7 @@ impl Store {
                 let kinds = picked_kinds(alloc, kinds.as_slice(), places)?;
                 Ok(Store::Blocks(kinds, pieces_picked(alloc, pieces.as_slice(), places)?))
             }
-            Store::Values(width, rows) => {
-                let rows = rows_picked(alloc, *width, rows.as_slice(), places)?;
-                Ok(Store::Values(places.len(), rows))
-            }
+            Store::Values(rows) => Ok(Store::Values(rows.picked(alloc, places)?)),
         }
     }
 
@@ -259,10 +274,10 @@ impl Store {
                 pieces.push(Piece::of_places(alloc, block, places)?)?;
                 Ok((start, rows))
             }
-            Store::Values(_, values) => {
+            Store::Values(values) => {
                 let start = values.len();
                 let numbers = rows.to_vec(alloc)?;
-                rows_taken(alloc, values, block, places, numbers.as_slice())?;
+                values.take(alloc, block, places, numbers.as_slice())?;
                 // That many rows of values would not fit in memory.
                 if values.len() > NUMBERS {
                     return Err(AllocError);
@@ -279,7 +294,7 @@ impl Store {
     {
         match self {
             Store::Blocks(_, pieces) => pieces.clear(),
-            Store::Values(_, rows) => rows.clear(),
+            Store::Values(rows) => rows.clear(),
         }
     }
 }

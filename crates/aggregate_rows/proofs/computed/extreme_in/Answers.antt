@@ -3,7 +3,7 @@ use Rattle.std.proofs.lemmas.List.{drop_all}
 use Rattle.cell_types.specs.Value.{value_view}
 use Rattle.query_meaning.specs.Apply.{computed_value}
 use Rattle.row_columns.specs.Picked.{numbered}
-use Rattle.aggregate_rows.specs.Computed.{aggregate_of, better_value}
+use Rattle.aggregate_rows.specs.Computed.{aggregate_of}
 use Rattle.aggregate_rows.proofs.RowLemmas.{row_before, value_there}
 use Rattle.aggregate_rows.proofs.ValueLemmas.{extreme_before, extreme_of_none}
 use Rattle.aggregate_rows.proofs.computed.extreme_in.Goals as goal
@@ -23,12 +23,9 @@ loop-i-preserved c =
     let value = value_view c.value.result in
     let place = c.args.place in
     let extreme = c.args.extreme in
-    let behind = numbered (drop i numbers) rows in
-    let row = get_or rows (get_or numbers (i - 1) 0) [] in
+    let at = value_there rows (get_or numbers (i - 1) 0) place value (rw c.at.ensures at c.value.ensures) in
     record {
       within = omega arith;
-      best = c.better-best.ensures ∙ ap (better_value extreme value) c.loop-i.invariant.best
-          ∙ ap (λ v. better_value extreme v (computed_value behind (aggregate_of extreme place))) (sym (value_there rows (get_or numbers (i - 1) 0) place value (rw c.at.ensures at c.value.ensures)))
-          ∙ sym (extreme_before extreme place row behind)
-          ∙ ap (λ rs. computed_value rs (aggregate_of extreme place)) (sym (row_before rows numbers i c.loop-i-test.true c.loop-i.invariant.within));
+      best = rw (c.better-best.ensures, c.loop-i.invariant.best, row_before rows numbers i c.loop-i-test.true c.loop-i.invariant.within, ← at)
+          (sym (extreme_before extreme place (get_or rows (get_or numbers (i - 1) 0) []) (numbered (drop i numbers) rows)));
     }

@@ -4,7 +4,7 @@ use Rattle.std.proofs.lemmas.Bool.{not-false}
 use Rattle.std.proofs.lemmas.List.{map-append}
 use Rattle.cell_types.specs.Value.{value_eq, value_view}
 use Rattle.query_meaning.specs.Apply.{is_value}
-use Rattle.aggregate_rows.specs.Tallies.{HasDistinct}
+use Rattle.aggregate_rows.specs.Distinct.{HasDistinct}
 use Rattle.aggregate_rows.proofs.ValueLemmas.{any_view, seen_again, seen_first}
 use Rattle.aggregate_rows.proofs.distinct.join_value.Goals as goal
 
@@ -26,8 +26,5 @@ returns c = λ seen has.
     let absent : list_any (value_eq v) (map value_view keys) ≡ false =
     sym (any_view value_view _ c.values_compare_as_their_views.ensures.equal c.args.value keys) ∙ sym c.contains.ensures ∙ c.if-contains.false in
     let other = any_view value_view _ c.values_compare_as_their_views.ensures.equal copy keys ∙ ap (λ w. list_any (value_eq w) (map value_view keys)) c.in_ok-owned.ensures.copy ∙ absent in
-    let put : map value_view c.insert.new.self.keys ≡ map value_view keys ++ v ∷ [] =
-    ap (map value_view) (c.in_ok-insert.ensures.keys ∙ ap (λ b. cond b keys (keys ++ copy ∷ [])) other) ∙ map-append value_view keys (copy ∷ [])
-    ∙ ap (λ w. map value_view keys ++ w ∷ []) c.in_ok-owned.ensures.copy in
-    subst (λ ks. HasDistinct ks (seen ++ cond (is_value v) (v ∷ []) [])) (sym put)
-    (subst (λ b. HasDistinct (map value_view keys ++ v ∷ []) (seen ++ cond b (v ∷ []) [])) (sym some) (seen_first c.values_are_ordered.ensures.equal (map value_view keys) seen v has absent))
+    rw (c.in_ok-insert.ensures.keys, other, map-append value_view keys (copy ∷ []), c.in_ok-owned.ensures.copy, some)
+    (seen_first c.values_are_ordered.ensures.equal (map value_view keys) seen v has absent)

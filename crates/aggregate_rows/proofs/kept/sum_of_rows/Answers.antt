@@ -1,7 +1,7 @@
-use Rattle.std.proofs.Common.{length, sym, ap, subst, ◌∙◌}
+use Rattle.std.proofs.Common.{length, sym, ap, subst, ◌∙◌, refl}
 use Rattle.query_meaning.specs.Fitting.{AreSummable}
 use Rattle.row_codes.specs.Kept.{IsKeptAs}
-use Rattle.aggregate_rows.specs.Sums.{numbers_in, sum_of}
+use Rattle.aggregate_rows.specs.Sums.{sum_of}
 use Rattle.aggregate_rows.proofs.KeptLemmas.{part_numbers, whole_numbers}
 use Rattle.aggregate_rows.proofs.kept.sum_of_rows.Goals as goal
 
@@ -17,8 +17,7 @@ returns-then-are_all c =
     let rows = c.args.columns.now.rows in
     let column = c.in-Some.column.now in
     let kept : IsKeptAs c.args.kind c.args.place rows column = rw c.in-Some.is at c.kept_column.ensures in
-    c.whole_sum.ensures c.args.kind kept.typed ∙ ap sum_of (whole_numbers c.args.kind c.args.place rows column kept)
-    ∙ ap (λ rs. sum_of (numbers_in c.args.kind c.args.place rs)) (sym (c.are_all.ensures c.if-are_all.true rows (sym c.len.ensures)))
+    rw (c.whole_sum.ensures c.args.kind kept.typed, c.are_all.ensures c.if-are_all.true rows (sym c.len.ensures), whole_numbers c.args.kind c.args.place rows column kept) refl
 
 pub returns : goal.returns
 returns c =

@@ -1,6 +1,5 @@
-use Rattle.std.proofs.Common.{◌≡◌, ◌<◌, ◌≤◌, ◌^◌, ◌++◌, ◌∷◌, [], ℕ, ap, get_or, length, take, subst, ◌∙◌, arith}
+use Rattle.std.proofs.Common.{◌≡◌, ◌<◌, ◌≤◌, ◌^◌, ◌++◌, ◌∷◌, [], ℕ, ap, get_or, length, ◌∙◌, arith}
 use Rattle.std.proofs.lemmas.List.{length-set, take_all}
-use Rattle.aggregate_rows.specs.Parts.{ArePartsFrom}
 use Rattle.aggregate_rows.proofs.PartLemmas.{part_more, parts_none}
 use Rattle.aggregate_rows.proofs.parts.parts_of.Goals as goal
 
@@ -28,10 +27,6 @@ loop-i-preserved c =
 
 pub returns-clause-parts : goal.returns-clause-parts
 returns-clause-parts c =
-    let numbers = c.args.numbers.now in
-    let groups = c.args.groups.now in
     let i = c.loop-i.i in
-    let parts = c.loop-i.parts.items in
-    let all : length numbers ≤ i = omega (arith, c.loop-i-test.false, c.len-i-end.ensures) in
-    subst (λ ns. ArePartsFrom 0 ns groups parts) (take_all i numbers all)
-    (subst (λ gs. ArePartsFrom 0 (take i numbers) gs parts) (take_all i groups (omega (arith, all, c.requires.long))) c.loop-i.invariant.parts)
+    let all : length c.args.numbers.now ≤ i = omega (arith, c.loop-i-test.false, c.len-i-end.ensures) in
+    rw (take_all i c.args.numbers.now all, take_all i c.args.groups.now (omega (arith, all, c.requires.long))) at c.loop-i.invariant.parts

@@ -1,18 +1,22 @@
-use Rattle.std.proofs.Common.{◌≡◌, ◌++◌, List, drop, take}
-use Rattle.cell_types.specs.Value.{CellValue}
+use Rattle.std.proofs.Common.{◌≡◌, ◌++◌, List, length, map}
+use Rattle.std.specs.List.{filter_map}
+use Rattle.cell_types.specs.Value.{CellValue, value_view}
 use Rattle.row_columns.specs.Picked.{numbered}
-use Rattle.aggregate_rows.specs.Tallies.{HasResults}
-use Rattle.aggregate_rows.proofs.ResultLemmas.{AreSets, IsOf}
+use Rattle.aggregate_rows.specs.Distinct.{distinct_place}
+use Rattle.aggregate_rows.specs.Table.{results_of}
+use Rattle.aggregate_rows.specs.Tallies.{HasResults, HasSet}
 use Rattle.aggregate_rows.proofs.ListLemmas.{ZipFrom}
+use Rattle.aggregate_rows.proofs.ResultLemmas.{sets_before, IsOf}
 use Rattle.aggregate_rows.proofs.results.join_each.Given as goal
 
--- the rows joined the first results
+-- the rows joined the first results, and the sets of these
 abbrev pub invariant-loop-i : goal.invariant-loop-i
 invariant-loop-i l = record {
-  width : l.group.width ≡ l.initial.group.width;
-  same : l.width ≡ l.initial.group.width;
-  key : take l.group.width l.group.values.items ≡ take l.initial.group.width l.initial.group.values.items;
-  results : (rows : List (List CellValue)) → HasResults l.aggregates rows l.initial.group
-      → ZipFrom (IsOf (rows ++ numbered l.numbers l.columns.rows)) (IsOf rows) l.i l.aggregates (drop l.group.width l.group.values.items);
-  sets : (rows : List (List CellValue)) → HasResults l.aggregates rows l.initial.group → AreSets l.aggregates rows (rows ++ numbered l.numbers l.columns.rows) l.i l.group.sets.items;
+  set : l.set ≡ sets_before l.i l.aggregates;
+  long : length l.results ≡ length l.initial.results;
+  sets_long : length l.sets ≡ length l.initial.sets;
+  results : (rows : List (List CellValue)) → HasResults l.aggregates rows (results_of l.initial.results l.initial.sets)
+      → ZipFrom (IsOf (rows ++ numbered l.rows.numbers.now l.rows.columns.now.rows)) (IsOf rows) l.i l.aggregates (map value_view l.results);
+  sets : (rows : List (List CellValue)) → HasResults l.aggregates rows (results_of l.initial.results l.initial.sets)
+      → ZipFrom (HasSet (rows ++ numbered l.rows.numbers.now l.rows.columns.now.rows)) (HasSet rows) l.set (filter_map distinct_place l.aggregates) l.sets;
 }

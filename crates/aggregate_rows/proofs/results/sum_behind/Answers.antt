@@ -1,10 +1,10 @@
 use Rattle.row_eval.specs.Row.{number_in}
-use Rattle.std.proofs.Common.{sym, ap, subst, ◌∙◌}
+use Rattle.std.proofs.Common.{sym, subst}
 use Rattle.std.proofs.lemmas.List.{length-map}
 use Rattle.query_meaning.specs.Fitting.{AreSummable}
 use Rattle.row_eval.specs.Row.{cell}
 use Rattle.row_columns.specs.Picked.{numbered}
-use Rattle.aggregate_rows.specs.Sums.{numbers_in, sum_of, sums_joined, FitSums}
+use Rattle.aggregate_rows.specs.Sums.{numbers_in}
 use Rattle.aggregate_rows.proofs.FitLemmas.{rest_fit}
 use Rattle.aggregate_rows.proofs.SumLemmas.{sums_fit, sums_join}
 use Rattle.aggregate_rows.proofs.results.sum_behind.Goals as goal
@@ -18,12 +18,10 @@ sum_of_rows-requires-clause-fits c =
 pub joined_sum-requires : goal.joined_sum-requires
 joined_sum-requires c =
     let more = numbered c.args.numbers.now c.args.columns.now.rows in
-    subst (λ s. FitSums s c.sum_of_rows.result) (sym c.requires.joins.sum_is)
-    (subst (FitSums (sum_of (numbers_in c.args.kind c.args.place c.requires.joins.rows))) (sym c.sum_of_rows.ensures)
-    (sums_fit (λ row. cell (number_in c.args.kind) row c.args.place) c.requires.joins.rows more c.requires.joins.fits))
+    rw (c.requires.joins.sum_is, c.sum_of_rows.ensures)
+    (sums_fit (λ row. cell (number_in c.args.kind) row c.args.place) c.requires.joins.rows more c.requires.joins.fits)
 
 pub returns : goal.returns
 returns c = λ rows is.
     let more = numbered c.args.numbers.now c.args.columns.now.rows in
-    c.joined_sum.ensures ∙ ap (λ s. sums_joined s c.sum_of_rows.result) is ∙ ap (sums_joined (sum_of (numbers_in c.args.kind c.args.place rows))) c.sum_of_rows.ensures
-    ∙ sym (sums_join (λ row. cell (number_in c.args.kind) row c.args.place) rows more)
+    rw (c.joined_sum.ensures, is, c.sum_of_rows.ensures) (sym (sums_join (λ row. cell (number_in c.args.kind) row c.args.place) rows more))

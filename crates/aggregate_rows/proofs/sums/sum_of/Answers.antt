@@ -1,8 +1,8 @@
 use Rattle.row_eval.specs.Row.{number_in}
-use Rattle.std.proofs.Common.{◌≡◌, ◌-◌, ℕ, ℤ, Option, [], get_or, length, sym, ap, subst, ◌∙◌, arith}
+use Rattle.std.proofs.Common.{◌≡◌, ℕ, ℤ, Option, [], get_or, length, sym, ap, subst, ◌∙◌, arith}
 use Rattle.row_eval.specs.Row.{cell}
 use Rattle.query_meaning.specs.Fitting.{AreSummable}
-use Rattle.aggregate_rows.specs.Sums.{sum_of, sums_joined, FitSums}
+use Rattle.aggregate_rows.specs.Sums.{sum_of, sums_joined}
 use Rattle.aggregate_rows.proofs.SumLemmas.{fits_before, joins_before, read_over}
 use Rattle.aggregate_rows.proofs.sums.sum_of.Goals as goal
 
@@ -13,8 +13,7 @@ joined_sum-sum-requires c =
     let numbers = c.args.numbers.now in
     let fit = subst (λ ns. AreSummable ns (length numbers)) (read_over (λ row. cell (number_in c.args.kind) row c.args.place) (λ n. get_or rows n []) numbers) c.requires.fits in
     let number = rw c.at.ensures at c.number_at.ensures in
-    subst (λ o. FitSums o c.loop-i.sum) (sym number)
-    (subst (FitSums (read (get_or numbers (c.loop-i.i - 1) 0))) (sym c.loop-i.invariant.sum) (fits_before read numbers c.loop-i.i 0 c.loop-i-test.true c.loop-i.invariant.within fit))
+    rw (number, c.loop-i.invariant.sum) (fits_before read numbers c.loop-i.i 0 c.loop-i-test.true c.loop-i.invariant.within fit)
 
 pub loop-i-preserved : goal.loop-i-preserved
 loop-i-preserved c =

@@ -1,5 +1,5 @@
-use Rattle.std.proofs.Common.{◌+◌, arith, ap, subst, sym, ◌∙◌}
-use Rattle.row_columns.specs.Chunks.{chunked_numbers, AreCounted}
+use Rattle.std.proofs.Common.{◌+◌, arith, ap, ◌∙◌}
+use Rattle.row_columns.specs.Chunks.{chunked_numbers}
 use Rattle.row_columns.specs.Numbers.{numbers_from}
 use Rattle.row_columns.proofs.ChunkLemmas.{chunks_push, counted_push, run_more}
 use Rattle.row_columns.proofs.row_numbers.push_chunk.Goals as goal
@@ -13,8 +13,7 @@ returns-then-chunk-start-clause-came c =
 
 pub returns-clause-counted : goal.returns-clause-counted
 returns-clause-counted c =
-    let chunks = c.args.chunks.now.items in
-    subst (AreCounted 0) (sym c.in_ok-push.ensures.items) (counted_push 0 chunks c.args.chunk c.requires.counted (omega (arith, c.requires.before)))
+    rw c.in_ok-push.ensures.items (counted_push 0 c.args.chunks.now.items c.args.chunk c.requires.counted (omega (arith, c.requires.before)))
 
 pub returns-clause-came : goal.returns-clause-came
 returns-clause-came c = ap chunked_numbers c.in_ok-push.ensures.items ∙ chunks_push c.args.chunks.now.items c.args.chunk

@@ -3,13 +3,11 @@ use Rattle.std.proofs.lemmas.List.{length-map, length-replicate}
 use Rattle.std.proofs.lemmas.Result.{IfOk-weaker}
 use Rattle.cell_types.specs.Value.{CellValue}
 use Rattle.odata_query.specs.Aggregate.{NamedAggregateOf}
-use Rattle.odata_query.specs.Query.{optional_numbers}
 use Rattle.row_columns.specs.Columns.{ColumnsOf}
 use Rattle.row_columns.specs.Kinds.{any}
 use Rattle.aggregate_rows.specs.Gathered.{gathered_rows, gathered_width, key_width, rows_gathered, Gathers, MakesRows}
 use Rattle.aggregate_rows.proofs.GatheredLemmas.{plain_rows}
 use Rattle.aggregate_rows.proofs.aggregator.Aggregator.finish.Goals as goal
-use Rattle.aggregate_rows.proofs.aggregator.Aggregator.finish.Goals.{in-None, in-Some}
 
 pub returns-clause-rows : goal.returns-clause-rows
 returns-clause-rows c =
@@ -29,15 +27,12 @@ wide (Some places) aggregates = refl
 pub returns-clause-width : goal.returns-clause-width
 returns-clause-width c =
     let self = c.args.self in
-    let width : c.match-self.width ≡ key_width (optional_numbers self.places) = elim c.match-self.branch [
-      | in-None w ↦ w.width-is ∙ sym (ap (λ ps. key_width (optional_numbers ps)) w.in-None.is)
-      | in-Some w ↦ omega (arith, w.width-is, w.in-Some.places.ok.0) ∙ sym (ap (λ ps. key_width (optional_numbers ps)) w.in-Some.is)
-    ] in
-    IfOk-weaker c.into_rows.result (λ (made : ColumnsOf). made.kinds ≡ replicate (c.match-self.width + length c.deref.result.now) any)
+    IfOk-weaker c.into_rows.result (λ (made : ColumnsOf). made.kinds ≡ replicate (self.groups.shape.key + length c.deref.result.now) any)
     (λ (made : ColumnsOf). (places : Option (List ℕ)) (aggregates : List NamedAggregateOf) (rows : List (List CellValue)) → Gathers self places aggregates rows
     → length made.kinds ≡ gathered_width places aggregates)
     (λ made is places aggregates rows g.
     let shown : length self.shown.items ≡ length aggregates = sym (length-map self.shown.items _) ∙ ap length g.aggregates_are.are ∙ length-map aggregates (λ a. a.aggregate) in
-    ap length is ∙ length-replicate (c.match-self.width + length c.deref.result.now) any
-    ∙ rw (width, g.places_are, c.deref.ensures.value, shown) (wide places aggregates))
+    let width : self.groups.shape.key ≡ key_width places = ap (λ s. s.key) g.groups_are.shape_is in
+    ap length is ∙ length-replicate (self.groups.shape.key + length c.deref.result.now) any
+    ∙ rw (width, c.deref.ensures.value, shown) (wide places aggregates))
     c.into_rows.ensures.kinds

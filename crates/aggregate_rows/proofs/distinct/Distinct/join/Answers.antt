@@ -4,7 +4,7 @@ use Rattle.std.proofs.lemmas.List.{take_all}
 use Rattle.query_meaning.specs.Apply.{present_values, value_at}
 use Rattle.row_columns.specs.Picked.{numbered}
 use Rattle.row_codes.specs.Kept.{IsKeptAs}
-use Rattle.aggregate_rows.specs.Tallies.{HoldsDistinct}
+use Rattle.aggregate_rows.specs.Distinct.{HoldsDistinct}
 use Rattle.aggregate_rows.proofs.GatheredLemmas.{values_more}
 use Rattle.aggregate_rows.proofs.distinct.Distinct.join.Goals as goal
 

@@ -4,7 +4,7 @@ use Rattle.cell_types.specs.Value.{CellValue}
 use Rattle.query_meaning.specs.Apply.{present_values}
 use Rattle.row_columns.specs.Picked.{numbered}
 use Rattle.row_codes.specs.Kept.{IsKeptAs}
-use Rattle.aggregate_rows.specs.Tallies.{HoldsDistinct}
+use Rattle.aggregate_rows.specs.Distinct.{HoldsDistinct}
 use Rattle.aggregate_rows.proofs.distinct.Distinct.join.Given as goal
 
 -- the values of the rows so far

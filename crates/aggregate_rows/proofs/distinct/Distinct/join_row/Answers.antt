@@ -1,11 +1,10 @@
-use Rattle.std.proofs.Common.{◌≡◌, ◌∷◌, ◌+ℤ◌, pos, [], false, true, Some, filter, get_or, map, refl, sym, ap, subst, ◌∙◌}
+use Rattle.std.proofs.Common.{◌≡◌, ◌+ℤ◌, pos, [], false, true, Some, get_or, refl, sym, ap, ◌∙◌}
 use Rattle.std.specs.Vec.{with_item}
 use Rattle.std.proofs.lemmas.List.{get_or_read}
 use Rattle.std.proofs.lemmas.Result.{on_ok_weaker}
 use Rattle.cell_types.specs.Kind.{cell_of}
 use Rattle.cell_types.specs.Value.{value_view}
-use Rattle.query_meaning.specs.Apply.{is_value, value_at}
-use Rattle.aggregate_rows.specs.Tallies.{JoinsDistinct}
+use Rattle.query_meaning.specs.Apply.{value_at}
 use Rattle.aggregate_rows.proofs.DistinctLemmas.{marked_again, marked_now, value_joined}
 use Rattle.row_codes.proofs.KeptLaws.{value_here}
 use Rattle.aggregate_rows.proofs.RowLemmas.{value_there}
@@ -19,8 +18,7 @@ returns-in_default-clause-joins c =
     let rows = c.args.row.columns.now.rows in
     let v = value_at (get_or rows c.args.row.number []) c.args.place in
     on_ok_weaker c.join_value.result (λ joins. value_joined old new v refl refl refl
-    (subst (λ w. JoinsDistinct (map value_view old.values.keys) (map value_view new.values.keys) (filter is_value (w ∷ [])))
-    (sym (value_there rows c.args.row.number c.args.place (value_view c.value.result) c.value.ensures)) joins)) c.join_value.ensures
+    (rw (value_there rows c.args.row.number c.args.place (value_view c.value.result) c.value.ensures) joins)) c.join_value.ensures
 
 pub returns-in_ok-join_value-clause-joins : goal.returns-in_ok-join_value-clause-joins
 returns-in_ok-join_value-clause-joins c =
@@ -36,8 +34,7 @@ returns-in_ok-join_value-clause-joins c =
       | in-None w ↦ absurd (cc)
     ] in
     marked_now c.values_are_ordered.ensures.equal old mark v is (record old { values = c.join_value-then-not-index.new.values; marks = with_item old.marks mark true }) refl refl refl
-    (subst (λ w. JoinsDistinct (map value_view old.values.keys) (map value_view c.join_value-then-not-index.new.values.keys) (filter is_value (w ∷ [])))
-    (sym (value_there rows row place (value_view c.value-then-not-index.result) c.value-then-not-index.ensures)) c.in_ok-join_value.ensures)
+    (rw (value_there rows row place (value_view c.value-then-not-index.result) c.value-then-not-index.ensures) c.in_ok-join_value.ensures)
 
 pub returns-else-not-index-clause-joins : goal.returns-else-not-index-clause-joins
 returns-else-not-index-clause-joins c =

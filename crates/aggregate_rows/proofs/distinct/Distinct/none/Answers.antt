@@ -1,7 +1,7 @@
 use Rattle.std.proofs.Common.{[], map, sym, subst}
 use Rattle.std.proofs.lemmas.Bool.{false≢true}
 use Rattle.cell_types.specs.Value.{value_view}
-use Rattle.aggregate_rows.specs.Tallies.{HasDistinct}
+use Rattle.aggregate_rows.specs.Distinct.{HasDistinct}
 use Rattle.aggregate_rows.proofs.ValueLemmas.{no_keys}
 use Rattle.aggregate_rows.proofs.distinct.Distinct.none.Goals as goal
 

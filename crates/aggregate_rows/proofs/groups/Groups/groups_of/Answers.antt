@@ -1,4 +1,4 @@
-use Rattle.std.proofs.Common.{◌≡◌, ◌<◌, ◌+◌, ◌++◌, ◌∷◌, [], ℕ, List, None, get_or, length, take, sym, ap, subst, ◌∙◌, arith}
+use Rattle.std.proofs.Common.{◌≡◌, ◌<◌, ◌+◌, ◌++◌, ◌∷◌, [], ℕ, List, None, get_or, length, take, refl, sym, ap, subst, ◌∙◌, arith}
 use Rattle.std.specs.Prelude.{IfSome, slice_set}
 use Rattle.std.proofs.lemmas.List.{get_or_read, length-map, length-set, map_more, take_all}
 use Rattle.std.proofs.lemmas.Slice.Zip.{all_zipped_more}
@@ -45,6 +45,7 @@ group_of_row-requires-clause-known c =
 pub loop-i-init : goal.loop-i-init
 loop-i-init c = record {
   long = c.in_ok-known.ensures.long;
+  shape = refl;
   begun = λ before has. none_more c.values_are_ordered.ensures.equal c.args.grouping.places.now c.args.grouping.aggregates.now before c.args.self.now has;
   found = subst (AreGroupsOf c.args.self.now c.args.grouping.places.now []) (sym c.in_ok-groups.ensures.items) tt;
   known = λ have code. subst (λ o. IfSome o (IsGroupOf c.args.self.now (have.values_of code))) (sym (c.in_ok-known.ensures.none code)) tt;
@@ -73,6 +74,7 @@ loop-i-preserved c =
     let has : HasGroupMore aggregates old new (values_at places row) = rw c.at-number.ensures at c.in_ok-group.ensures.more in
     record {
       long = length-set known code told ∙ c.loop-i.invariant.long;
+      shape = has.shape ∙ c.loop-i.invariant.shape;
       begun = λ before held.
           subst (AreBegun places aggregates new before) (sym next)
           (begun_more equal places aggregates before (numbered (take i numbers) rows) row old new (c.loop-i.invariant.begun before held) has);

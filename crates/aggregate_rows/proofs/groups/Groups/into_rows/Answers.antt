@@ -1,77 +1,83 @@
-use Rattle.std.proofs.Common.{◌≡◌, ◌<◌, ◌≤◌, ◌++◌, ◌∷◌, [], ℕ, List, Option, Vec, Global, get_or, length, map, take, sym, rules, ap, subst, ◌∙◌, arith}
-use Rattle.std.proofs.lemmas.Iterator.Adapters.{YieldsList-from_vec}
-use Rattle.std.proofs.lemmas.Iterator.Consumers.{YieldsList-end, YieldsList-turn}
-use Rattle.std.proofs.lemmas.List.{length-append, length-map, map_push, take_all}
-use Rattle.cell_types.specs.Value.{CellValue, value_view}
-use Rattle.cell_types.specs.declared.value.Value.{Value}
-use Rattle.odata_query.specs.declared.aggregate.Aggregate.{Aggregate}
-use Rattle.odata_query.specs.declared.aggregate.Aggregate.TheVariants.{Count}
-use Rattle.query_meaning.specs.Apply.{computed_value}
-use Rattle.row_columns.specs.Store.{value_rows}
-use Rattle.aggregate_rows.specs.declared.group_row.GroupRow.{GroupRow}
-use Rattle.aggregate_rows.specs.declared.groups.Groups.{Groups}
-use Rattle.aggregate_rows.specs.Gathered.{group_keys, part_of, rows_gathered, HasGroups}
-use Rattle.aggregate_rows.specs.Tallies.{aggregates_at, key_of_group, HasResults}
-use Rattle.aggregate_rows.proofs.GatheredLemmas.{all_wide, as_many, key_at, results_at, row_more}
+use Rattle.std.proofs.Common.{◌≡◌, ◌+◌, ◌++◌, length, map, replicate, sym, ap, subst, ◌∙◌, arith}
+use Rattle.std.proofs.lemmas.List.{length-append, length-map, length-replicate}
+use Rattle.std.proofs.lemmas.Result.{IfOk-weaker}
+use Rattle.cell_types.specs.Value.{value_view}
+use Rattle.value_rows.specs.ValueRows.{rows_of}
+use Rattle.value_rows.proofs.RowLaws.{rows-long}
+use Rattle.row_columns.specs.Columns.{ColumnsOf}
+use Rattle.row_columns.specs.Kinds.{any}
+use Rattle.row_columns.specs.Numbers.{numbers_from}
+use Rattle.row_columns.specs.Picked.{kinds_at, numbered, values_at}
+use Rattle.row_columns.proofs.NumberedLaws.{all_numbered, all_within}
+use Rattle.aggregate_rows.specs.Gathered.{HaveShown, MakesRows}
+use Rattle.aggregate_rows.specs.Inside.{count_of}
+use Rattle.aggregate_rows.specs.Table.{GroupsOf}
+use Rattle.aggregate_rows.proofs.InsideLemmas.{many, rows-picked, rows-whole, shown-within}
+use Rattle.aggregate_rows.proofs.TableLemmas.{kinds-any, numbers-long, places-inside}
 use Rattle.aggregate_rows.proofs.groups.Groups.into_rows.Goals as goal
 
--- a group has the results of its rows
-module _ (places : Option (List ℕ)) (aggregates : List Aggregate) (rows : List (List CellValue)) (groups : Groups) (has : HasGroups places aggregates groups rows) (keys : List GroupRow) (same : keys ≡ groups.rows.keys)
-    (i : ℕ) (inside : i < length keys) (group : GroupRow) (is : group ≡ get_or keys i group) where
-  there : group ≡ get_or groups.rows.keys i group
-  there = is ∙ ap (λ ks. get_or ks i group) same
+pub of_values-requires : goal.of_values-requires
+of_values-requires c =
+    let count : c.len-count.result ≡ count_of c.self.inside = c.len-count.ensures ∙ sym (ap (λ (g : GroupsOf). length g.groups) c.self.view_is) ∙ many _ c.self.inside c.self.invariant in
+    rw count c.self.invariant.values
 
-  low : i < length groups.rows.keys
-  low = subst (λ ks. i < length ks) same inside
+pub returns-then-are_all-clause-rows : goal.returns-then-are_all-clause-rows
+returns-then-are_all-clause-rows c =
+    let g = c.self.inside in
+    let count : c.len-count.result ≡ count_of g = c.len-count.ensures ∙ sym (ap (λ (g : GroupsOf). length g.groups) c.self.view_is) ∙ many _ g c.self.invariant in
+    let shown = c.args.shown.now in
+    rw (c.in_ok-columns.ensures, count) (subst (λ (s : GroupsOf). MakesRows s shown (rows_of g.width (count_of g) (map value_view g.values.items))) c.self.view_is
+    (rows-whole _ g c.self.invariant shown (c.are_all.ensures c.if-are_all.true)))
 
-  own : HasResults aggregates (part_of places rows (get_or (group_keys places rows) i [])) group
-  own = subst (HasResults aggregates (part_of places rows (get_or (group_keys places rows) i []))) (sym there) (results_at places aggregates groups rows has i group low)
+pub returns-then-are_all-clause-kinds : goal.returns-then-are_all-clause-kinds
+returns-then-are_all-clause-kinds c =
+    let g = c.self.inside in
+    let all = (c.are_all.ensures c.if-are_all.true).0 in
+    rw c.in_ok-columns.ensures (ap (λ n. replicate n any) (omega (arith, all, c.self.invariant.wide, ap (λ (s : GroupsOf). s.shape.key) c.self.view_is)))
 
-  its_key : key_of_group group ≡ get_or (group_keys places rows) i []
-  its_key = ap key_of_group there ∙ key_at places aggregates groups rows has i group low
+pub shown_places-requires : goal.shown_places-requires
+shown_places-requires c = λ i d h.
+    let within = shown-within _ c.self.inside c.self.invariant c.args.shown.now (subst (λ (s : GroupsOf). HaveShown s c.args.shown.now) (sym c.self.view_is) c.requires) i d h in
+    omega (arith, within, c.self.invariant.few)
 
-pub shown_row-requires : goal.shown_row-requires
-shown_row-requires c =
-    let places = c.requires.gathered.0 in
-    let aggregates = c.requires.gathered.1 in
-    let rows = c.requires.gathered.2 in
-    let has = c.requires.gathered.3 in
-    let at = YieldsList-turn (YieldsList-from_vec {s = c.into_iter-group-iterator.result} c.into_keys-groups.result.items (search rules) (search rules)) c.loop-group.yielded
-    c.loop-group.group-iterator c.loop-group.yielded_by c.next.result c.next.new.self c.in-Some.group c.in-Some.is c.next.ensures.steps in (
-      aggregates,
-      part_of places rows (get_or (group_keys places rows) (length c.loop-group.yielded) []),
-      own places aggregates rows c.args.self has c.into_keys-groups.result.items c.into_keys-groups.ensures (length c.loop-group.yielded) at.0 c.in-Some.group at.1,
-      c.requires.gathered.5,
-    )
+pub picked-requires-clause-places : goal.picked-requires-clause-places
+picked-requires-clause-places c =
+    let g = c.self.inside in
+    let within = shown-within _ g c.self.invariant c.args.shown.now (subst (λ (s : GroupsOf). HaveShown s c.args.shown.now) (sym c.self.view_is) c.requires) in
+    rw (c.in_ok-columns.ensures, c.deref.ensures.value, c.in_ok-places.ensures) (rw length-replicate (places-inside g.key_width g.width c.args.shown.now c.self.invariant.wide within))
 
-pub loop-group-preserved : goal.loop-group-preserved
-loop-group-preserved c =
-    let at = YieldsList-turn (YieldsList-from_vec {s = c.into_iter-group-iterator.result} c.into_keys-groups.result.items (search rules) (search rules)) c.loop-group.yielded
-    c.loop-group.group-iterator c.loop-group.yielded_by c.next.result c.next.new.self c.in-Some.group c.in-Some.is c.next.ensures.steps in
-    λ places aggregates rows has.
-    let i = length c.loop-group.yielded in
-    let keys = c.into_keys-groups.result.items in
-    let part = part_of places rows (get_or (group_keys places rows) i []) in
-    let shown = aggregates_at c.args.shown.now aggregates in
-    let row = c.in_ok-shown_row.field-0 in
-    let is : map value_view row.items ≡ get_or (group_keys places rows) i [] ++ map (computed_value part) shown =
-    c.in_ok-shown_row.ensures aggregates part (own places aggregates rows c.args.self has keys c.into_keys-groups.ensures i at.0 c.in-Some.group at.1)
-    ∙ ap (λ k. k ++ map (computed_value part) shown) (its_key places aggregates rows c.args.self has keys c.into_keys-groups.ensures i at.0 c.in-Some.group at.1) in
-    ap value_rows c.in_ok-push.ensures.items ∙ map_push (λ (r : Vec Value Global). map value_view r.items) c.loop-group.rows.items row
-    ∙ ap (λ rs. rs ++ map value_view row.items ∷ []) (c.loop-group.invariant places aggregates rows has)
-    ∙ sym (row_more places aggregates c.args.self rows has shown i (map value_view row.items) (low places aggregates rows c.args.self has keys c.into_keys-groups.ensures i at.0 c.in-Some.group at.1) is)
-    ∙ sym (ap (λ n. take n (rows_gathered places shown rows)) (length-append c.loop-group.yielded (c.in-Some.group ∷ [])))
+pub picked-requires-clause-within : goal.picked-requires-clause-within
+picked-requires-clause-within c =
+    let g = c.self.inside in
+    rw (c.in_ok-columns.ensures, c.deref-2.ensures.value, c.in_ok-numbers.ensures, c.all.ensures, rows-long g.width c.len-count.result (map value_view g.values.items)) (all_within c.len-count.result)
 
-pub of_rows-requires : goal.of_rows-requires
-of_rows-requires c =
-    let places = c.requires.gathered.0 in
-    let aggregates = c.requires.gathered.1 in
-    let rows = c.requires.gathered.2 in
-    let has = c.requires.gathered.3 in
-    let shown = aggregates_at c.args.shown.now aggregates in
-    let made = rows_gathered places shown rows in
-    let ends = YieldsList-end (YieldsList-from_vec {s = c.into_iter-group-iterator.result} c.into_keys-groups.result.items (search rules) (search rules)) c.loop-group.yielded c.loop-group.group-iterator c.loop-group.yielded_by c.next.result
-    c.next.new.self c.in-None.is c.next.ensures.steps in
-    let long : length made ≤ length c.loop-group.yielded = omega (arith, ends.1, ap length c.into_keys-groups.ensures, as_many places aggregates c.args.self rows has, length-map (group_keys places rows) (λ key. key ++ map (computed_value (part_of places rows key)) shown)) in
-    let width : length shown ≡ length c.args.shown.now = length-map c.args.shown.now (λ place. get_or aggregates place Count) in
-    rw (c.loop-group.invariant places aggregates rows has ∙ take_all (length c.loop-group.yielded) made long) (rw (c.requires.gathered.4, width) at (all_wide places shown rows))
+pub returns-clause-kinds : goal.returns-clause-kinds
+returns-clause-kinds c =
+    let g = c.self.inside in
+    let shown = c.args.shown.now in
+    let places = numbers_from 0 g.key_width ++ map (λ place. g.key_width + place) shown in
+    let are : c.deref.result.now ≡ places = c.deref.ensures.value ∙ c.in_ok-places.ensures in
+    let key : g.key_width ≡ c.args.self.shape.key = ap (λ (s : GroupsOf). s.shape.key) c.self.view_is in
+    let long : length places ≡ c.args.self.shape.key + length shown =
+    omega (arith, key, length-append (numbers_from 0 g.key_width) (map (λ place. g.key_width + place) shown), numbers-long 0 g.key_width, length-map shown (λ place. g.key_width + place)) in
+    IfOk-weaker c.picked.result (λ (made : ColumnsOf). made.kinds ≡ kinds_at c.deref.result.now c.in_ok-columns.columns.kinds) (λ (made : ColumnsOf). made.kinds ≡ replicate (c.args.self.shape.key + length shown) any)
+    (λ made is. is ∙ ap (λ ps. kinds_at ps c.in_ok-columns.columns.kinds) are ∙ ap (λ (of : ColumnsOf). kinds_at places of.kinds) c.in_ok-columns.ensures ∙ kinds-any g.width places ∙ ap (λ n. replicate n any) long)
+    c.picked.ensures.kinds
+
+pub returns-clause-rows : goal.returns-clause-rows
+returns-clause-rows c =
+    let g = c.self.inside in
+    let shown = c.args.shown.now in
+    let rows = rows_of g.width (count_of g) (map value_view g.values.items) in
+    let places = numbers_from 0 g.key_width ++ map (λ place. g.key_width + place) shown in
+    let count : c.len-count.result ≡ count_of g = c.len-count.ensures ∙ sym (ap (λ (g : GroupsOf). length g.groups) c.self.view_is) ∙ many _ g c.self.invariant in
+    let are : c.deref.result.now ≡ places = c.deref.ensures.value ∙ c.in_ok-places.ensures in
+    let held : c.in_ok-columns.columns.rows ≡ rows = ap (λ (of : ColumnsOf). of.rows) c.in_ok-columns.ensures ∙ ap (λ n. rows_of g.width n (map value_view g.values.items)) count in
+    let all : c.deref-2.result.now ≡ numbers_from 0 (length rows) =
+    c.deref-2.ensures.value ∙ c.in_ok-numbers.ensures ∙ c.all.ensures ∙ ap (numbers_from 0) (count ∙ sym (rows-long g.width (count_of g) (map value_view g.values.items))) in
+    let within = shown-within _ g c.self.invariant shown (subst (λ (s : GroupsOf). HaveShown s shown) (sym c.self.view_is) c.requires) in
+    IfOk-weaker c.picked.result (λ (made : ColumnsOf). made.rows ≡ map (values_at c.deref.result.now) (numbered c.deref-2.result.now c.in_ok-columns.columns.rows)) (λ (made : ColumnsOf). MakesRows c.args.self shown made.rows)
+    (λ made is. subst (λ (s : GroupsOf). MakesRows s shown made.rows) c.self.view_is (λ of aggregates some has.
+    is ∙ ap (λ ps. map (values_at ps) (numbered c.deref-2.result.now c.in_ok-columns.columns.rows)) are ∙ ap (λ ns. map (values_at places) (numbered ns c.in_ok-columns.columns.rows)) all
+    ∙ ap (λ rs. map (values_at places) (numbered (numbers_from 0 (length rows)) rs)) held ∙ ap (map (values_at places)) (all_numbered rows) ∙ rows-picked _ g c.self.invariant shown within of aggregates some has))
+    c.picked.ensures.rows

@@ -1,36 +1,49 @@
-use Rattle.std.proofs.Common.{◌≡◌, length, map, take, of_calls, refl, sym, ap, subst}
-use Rattle.std.specs.Prelude.{OnOk}
+use Rattle.std.proofs.Common.{length, ap, arith}
 use Rattle.std.proofs.lemmas.Result.{on_ok_weaker}
-use Rattle.cell_types.specs.Value.{value_view}
-use Rattle.row_columns.specs.Picked.{numbered}
-use Rattle.aggregate_rows.specs.Tallies.{MayTallyEach, TalliesEach}
-use Rattle.aggregate_rows.proofs.KeyLemmas.{pointwise_same}
+use Rattle.aggregate_rows.proofs.PushLemmas.{has-room, may-tally, put-are, put-joined}
 use Rattle.aggregate_rows.proofs.groups.Groups.join_group.Goals as goal
 
-pub change_at-requires : goal.change_at-requires
-change_at-requires c =
-    let key = c.requires.joins.group in
-    let columns = c.args.rows.columns.now in
-    let more = numbered c.args.rows.numbers.now columns.rows in
-    record {
-      key = key;
-      there = c.requires.joins.there;
-      taken = λ p is.
-          let may : MayTallyEach c.args.aggregates.now (length columns.kinds) p.now more = subst (λ g. MayTallyEach c.args.aggregates.now (length columns.kinds) g more) (sym is) c.requires.joins.may in
-          search (of_calls, may, c.requires.within) parts 8;
-      equal = λ r new gave.
-          let same : take new.width new.values.items ≡ take key.width key.values.items = search (of_calls, gave.met, gave.shows, gave.leaves) parts 8 in
-          pointwise_same value_view _ c.values_compare_as_their_views.ensures.equal (λ v. (c.values_are_ordered.ensures.equal v v).1 refl) (take key.width key.values.items) (take new.width new.values.items) same;
-    }
+pub overflow_mul-from : goal.overflow_mul-from
+overflow_mul-from c = let room = has-room _ c.self.inside c.self.invariant c.args.place c.args.self.now c.self.view_is _ _ _ c.requires.joins in omega (arith, c.self.invariant.wide, c.self.inside.values.ok.0, c.self.inside.values.small)
+
+pub overflow_add-from : goal.overflow_add-from
+overflow_add-from c = let room = has-room _ c.self.inside c.self.invariant c.args.place c.args.self.now c.self.view_is _ _ _ c.requires.joins in omega (arith, c.self.invariant.wide, c.self.inside.values.ok.0, c.self.inside.values.small)
+
+pub offset_bounds-as_mut_slice-from : goal.offset_bounds-as_mut_slice-from
+offset_bounds-as_mut_slice-from c = let room = has-room _ c.self.inside c.self.invariant c.args.place c.args.self.now c.self.view_is _ _ _ c.requires.joins in omega (arith, c.self.invariant.wide, c.self.inside.values.ok.0, c.self.inside.values.small)
+
+pub overflow_mul-set : goal.overflow_mul-set
+overflow_mul-set c = let room = has-room _ c.self.inside c.self.invariant c.args.place c.args.self.now c.self.view_is _ _ _ c.requires.joins in omega (arith, c.self.invariant.wide, c.self.inside.sets.ok.0, c.self.inside.sets.small)
+
+pub overflow_add-sets : goal.overflow_add-sets
+overflow_add-sets c = let room = has-room _ c.self.inside c.self.invariant c.args.place c.args.self.now c.self.view_is _ _ _ c.requires.joins in omega (arith, c.self.invariant.wide, c.self.inside.sets.ok.0, c.self.inside.sets.small)
+
+pub offset_bounds-as_mut_slice-set : goal.offset_bounds-as_mut_slice-set
+offset_bounds-as_mut_slice-set c = let room = has-room _ c.self.inside c.self.invariant c.args.place c.args.self.now c.self.view_is _ _ _ c.requires.joins in omega (arith, c.self.invariant.wide, c.self.inside.sets.ok.0, c.self.inside.sets.small)
+
+pub overflow_add-results : goal.overflow_add-results
+overflow_add-results c = let room = has-room _ c.self.inside c.self.invariant c.args.place c.args.self.now c.self.view_is _ _ _ c.requires.joins in omega (arith, c.self.invariant.wide, c.self.inside.values.ok.0, c.self.inside.values.small)
+
+pub slice_bounds-results-end : goal.slice_bounds-results-end
+slice_bounds-results-end c = let room = has-room _ c.self.inside c.self.invariant c.args.place c.args.self.now c.self.view_is _ _ _ c.requires.joins in omega (arith, c.self.invariant.wide, ap length c.as_mut_slice.ensures.value)
+
+pub slice_bounds-sets-end : goal.slice_bounds-sets-end
+slice_bounds-sets-end c = let room = has-room _ c.self.inside c.self.invariant c.args.place c.args.self.now c.self.view_is _ _ _ c.requires.joins in omega (arith, ap length c.as_mut_slice-2.ensures.value)
+
+pub join_each-requires-clause-joins : goal.join_each-requires-clause-joins
+join_each-requires-clause-joins c =
+    may-tally _ c.self.inside c.self.invariant c.args.place c.args.self.now c.self.view_is c.args.aggregates.now _ _ c.requires.joins
+    c.as_mut_slice.result.now c.as_mut_slice.ensures.value c.as_mut_slice-2.result.now c.as_mut_slice-2.ensures.value
+
+pub invariant_of-self : goal.invariant_of-self
+invariant_of-self c =
+    put-are _ c.self.inside c.self.invariant c.args.place c.args.self.now c.self.view_is c.args.aggregates.now _ _ c.requires.joins
+    c.as_mut_slice.result.now c.as_mut_slice.ensures.value c.as_mut_slice-2.result.now c.as_mut_slice-2.ensures.value
+    c.join_each.new.results c.join_each.new.sets c.join_each.ensures.results c.join_each.ensures.sets
 
 pub returns : goal.returns
 returns c =
-    let changed = c.change_at.ensures.changed in
-    let key = changed.key in
-    let new = changed.other in
-    let gave = changed.returned in
-    let aggregates = c.args.aggregates.now in
-    let more = numbered c.args.rows.numbers.now c.args.rows.columns.now.rows in
-    let same : take new.width new.values.items ≡ take key.width key.values.items = search (of_calls, gave.met, gave.shows, gave.leaves) parts 8 in
-    let joins : OnOk c.change_at.result (TalliesEach aggregates key new more) = search (of_calls, gave.met, gave.shows, gave.leaves) parts 8 in
-    on_ok_weaker c.change_at.result (λ joins. record { group = key; there = changed.there; made = new; key = ap (map value_view) same; joins = joins; rows = changed.keys }) joins
+    on_ok_weaker c.join_each.result
+    (put-joined _ c.self.inside c.self.invariant c.args.place c.args.self.now c.self.view_is c.args.aggregates.now _ _ c.requires.joins
+    c.as_mut_slice.result.now c.as_mut_slice.ensures.value c.as_mut_slice-2.result.now c.as_mut_slice-2.ensures.value
+    c.join_each.new.results c.join_each.new.sets c.join_each.ensures.results c.join_each.ensures.sets) c.join_each.ensures.joins

@@ -26,7 +26,7 @@ join_group-requires-clause-joins c =
     let at = rw (← c.loop-part.invariant.turn) at (YieldsList-turn (YieldsList-from_vec {s = c.into_iter-part-iterator.result} c.args.parts.items (search rules) (search rules)) c.loop-part.yielded
     c.loop-part.part-iterator c.loop-part.yielded_by c.next.result c.next.new.self c.in-Some.part c.in-Some.is c.next.ensures.steps) in
     rw c.few.ensures
-    (part_may_join c.args.aggregates.now c.args.columns.now.rows c.args.parts.items may.keys may.before may.more c.loop-part.self.rows.keys c.loop-part.place c.in-Some.part at.0 at.1 may.parts_are
+    (part_may_join c.args.aggregates.now c.args.columns.now.rows c.args.parts.items may.keys may.before may.more c.loop-part.self.groups c.loop-part.place c.in-Some.part at.0 at.1 may.parts_are
     (c.loop-part.invariant.joined may.keys may.before may.more may.have may.parts_are) c.loop-part.self (length c.args.columns.now.kinds) refl may.fits)
 
 pub loop-part-preserved : goal.loop-part-preserved
@@ -36,9 +36,10 @@ loop-part-preserved c =
     let joined : JoinsGroup c.args.aggregates.now c.loop-part.self c.join_group.new.self c.loop-part.place (numbered c.in-Some.part.items c.args.columns.now.rows) = rw c.few.ensures at c.in_ok-join_group.ensures in
     record {
       turn = omega (arith, c.loop-part.invariant.turn, length-append c.loop-part.yielded (c.in-Some.part ∷ []));
+      shape = c.in_ok-join_group.ensures.shape ∙ c.loop-part.invariant.shape;
       keys = keys_same c.args.aggregates.now c.loop-part.self c.join_group.new.self c.loop-part.place _ joined ∙ c.loop-part.invariant.keys;
       joined = λ keys before more have parts_are.
-          part_joined c.args.aggregates.now c.args.columns.now.rows c.args.parts.items keys before more c.loop-part.self.rows.keys c.loop-part.place c.in-Some.part at.0 at.1 parts_are
+          part_joined c.args.aggregates.now c.args.columns.now.rows c.args.parts.items keys before more c.loop-part.self.groups c.loop-part.place c.in-Some.part at.0 at.1 parts_are
           (c.loop-part.invariant.joined keys before more have parts_are) c.loop-part.self c.join_group.new.self refl joined;
     }
 
@@ -49,14 +50,15 @@ loop-part-preserved-in_ok-join_group c =
     let joined : JoinsGroup c.args.aggregates.now c.loop-part.self c.join_group.new.self c.loop-part.place (numbered c.in-Some.part.items c.args.columns.now.rows) = rw c.few.ensures at c.in_ok-join_group.ensures in
     record {
       turn = omega (arith, c.loop-part.invariant.turn, length-append c.loop-part.yielded (c.in-Some.part ∷ []));
+      shape = c.in_ok-join_group.ensures.shape ∙ c.loop-part.invariant.shape;
       keys = keys_same c.args.aggregates.now c.loop-part.self c.join_group.new.self c.loop-part.place _ joined ∙ c.loop-part.invariant.keys;
       joined = λ keys before more have parts_are.
-          part_joined c.args.aggregates.now c.args.columns.now.rows c.args.parts.items keys before more c.loop-part.self.rows.keys c.loop-part.place c.in-Some.part at.0 at.1 parts_are
+          part_joined c.args.aggregates.now c.args.columns.now.rows c.args.parts.items keys before more c.loop-part.self.groups c.loop-part.place c.in-Some.part at.0 at.1 parts_are
           (c.loop-part.invariant.joined keys before more have parts_are) c.loop-part.self c.join_group.new.self refl joined;
     }
 
 pub returns-clause-joins : goal.returns-clause-joins
 returns-clause-joins c = λ keys before more have parts_are.
     let parts = zip_long (λ key part. numbered part.items c.args.columns.now.rows ≡ more key) keys c.args.parts.items parts_are in
-    all_by (λ key group. HasResults c.args.aggregates.now (before key ++ more key) group) (λ key group. HasResults c.args.aggregates.now (before key) group) keys c.loop-part.self.rows.keys c.loop-part.place
+    all_by (λ key group. HasResults c.args.aggregates.now (before key ++ more key) group) (λ key group. HasResults c.args.aggregates.now (before key) group) keys c.loop-part.self.groups c.loop-part.place
     (c.loop-part.invariant.joined keys before more have parts_are) (omega (arith, c.loop-part.invariant.turn, (YieldsList-end (YieldsList-from_vec {s = c.into_iter-part-iterator.result} c.args.parts.items (search rules) (search rules)) c.loop-part.yielded c.loop-part.part-iterator c.loop-part.yielded_by c.next.result c.next.new.self c.in-None.is c.next.ensures.steps).1, parts))

@@ -2,7 +2,7 @@ use Rattle.std.proofs.Common.{◌≡◌, ◌<◌, ◌≤◌, ◌^◌, ◌++◌, 
 use Rattle.std.specs.Prelude.{OnOk}
 use Rattle.std.proofs.lemmas.List.Elements.{recursion_from_All}
 use Rattle.row_columns.specs.Picked.{numbered}
-use Rattle.aggregate_rows.specs.declared.groups.Groups.{Groups}
+use Rattle.aggregate_rows.specs.Table.{GroupsOf}
 use Rattle.aggregate_rows.specs.Gathered.{keys_held, JoinsGroups, MayJoinGroups}
 use Rattle.aggregate_rows.specs.Parts.{AreBegun, AreGroupsOf, ArePartsFrom}
 use Rattle.aggregate_rows.proofs.BegunLemmas.{all_inside, as_many_found, may_join_parts, parts_joined}
@@ -56,7 +56,7 @@ join_parts-requires-clause-joins c =
     let may = c.requires.joins in
     let begun : AreBegun places aggregates mid may.rows (numbered numbers rows) = (rw c.in-Some.is at c.in_ok-groups.ensures.begun) may.rows may.has in
     let from : ArePartsFrom 0 numbers found parts = rw c.deref.ensures.value at c.in_ok-parts.ensures.parts in
-    let long : length parts ≡ length mid.rows.keys = c.in_ok-parts.ensures.long ∙ c.len.ensures in
+    let long : length parts ≡ length mid.groups = c.in_ok-parts.ensures.long ∙ c.len.ensures in
     may_join_parts c.values_are_ordered.ensures.equal places aggregates may.rows rows numbers mid begun
     (c.rows_are_in_groups.ensures.distinct places (may.rows ++ numbered numbers rows)) found are parts long from (length c.args.columns.now.kinds) may.fits
 
@@ -72,18 +72,19 @@ returns-in-Some c =
     let parts = c.in_ok-parts.parts.items in
     let are : AreGroupsOf mid places (numbered numbers rows) found = rw c.in-Some.is at c.in_ok-groups.ensures.groups in
     let from : ArePartsFrom 0 numbers found parts = rw c.deref.ensures.value at c.in_ok-parts.ensures.parts in
-    let long : length parts ≡ length mid.rows.keys = c.in_ok-parts.ensures.long ∙ c.len.ensures in
-    both_ok c.join_parts.result (keys_held new ≡ keys_held mid) _ (JoinsGroups (Some places) aggregates c.args.self.now new (numbered numbers rows))
-    (λ same joins before has. parts_joined c.values_are_ordered.ensures.equal places aggregates before rows numbers mid ((rw c.in-Some.is at c.in_ok-groups.ensures.begun) before has)
-    (c.rows_are_in_groups.ensures.distinct places (before ++ numbered numbers rows)) found are parts long from new same joins)
-    c.join_parts.ensures.keys c.join_parts.ensures.joins
+    let long : length parts ≡ length mid.groups = c.in_ok-parts.ensures.long ∙ c.len.ensures in
+    both_ok c.join_parts.result (new.shape ≡ mid.shape) (new.shape ≡ mid.shape → JoinsGroups (Some places) aggregates c.args.self.now new (numbered numbers rows)) _ (λ shape joined. joined shape)
+    c.join_parts.ensures.shape
+    (both_ok c.join_parts.result (keys_held new ≡ keys_held mid) _ _ (λ same joins shape before has. parts_joined c.values_are_ordered.ensures.equal places aggregates before rows numbers mid ((rw c.in-Some.is at c.in_ok-groups.ensures.begun) before has)
+    (c.rows_are_in_groups.ensures.distinct places (before ++ numbered numbers rows)) found are parts long from new shape same joins)
+    c.join_parts.ensures.keys c.join_parts.ensures.joins)
 
 pub join_each_row-requires-clause-joins : goal.join_each_row-requires-clause-joins
 join_each_row-requires-clause-joins c =
-    subst (λ (mid : Groups). MayJoinGroups (Some c.args.grouping.places.now) c.args.grouping.aggregates.now (length c.args.columns.now.kinds) mid
+    subst (λ (mid : GroupsOf). MayJoinGroups (Some c.args.grouping.places.now) c.args.grouping.aggregates.now (length c.args.columns.now.kinds) mid
     (numbered c.args.numbers.now c.args.columns.now.rows)) (sym (c.in_ok-groups.ensures.none c.in_default.is)) c.requires.joins
 
 pub returns : goal.returns
 returns c =
-    subst (λ (mid : Groups). OnOk c.join_each_row.result (JoinsGroups (Some c.args.grouping.places.now) c.args.grouping.aggregates.now mid c.join_each_row.new.self
+    subst (λ (mid : GroupsOf). OnOk c.join_each_row.result (JoinsGroups (Some c.args.grouping.places.now) c.args.grouping.aggregates.now mid c.join_each_row.new.self
     (numbered c.args.numbers.now c.args.columns.now.rows))) (c.in_ok-groups.ensures.none c.in_default.is) c.join_each_row.ensures

@@ -1,8 +1,6 @@
-use Rattle.std.proofs.Common.{[], ◌∷◌, ap}
+use Rattle.std.proofs.Common.{◌∙◌}
+use Rattle.aggregate_rows.proofs.TableLemmas.{whole_yet}
 use Rattle.aggregate_rows.proofs.groups.Groups.whole.Goals as goal
 
 pub returns : goal.returns
-returns c = record {
-  keys_are = rw (c.in_ok-insert.ensures.keys, c.none-groups.ensures.rows) (ap (λ k. k ∷ []) c.in_ok-group_of_none.ensures.key);
-  results_are = rw (c.in_ok-insert.ensures.keys, c.none-groups.ensures.rows) (c.in_ok-group_of_none.ensures.results, tt);
-}
+returns c = whole_yet c.args.aggregates.now c.push.new.self (c.push.ensures.shape ∙ c.none-groups.ensures.shape) (rw c.none-groups.ensures.groups at c.in_ok-push.ensures.groups)

@@ -1,30 +1,17 @@
-use Rattle.std.proofs.Common.{◌≡◌, Some, None, nat_eq, sym, ap, ◌∙◌}
-use Rattle.std.specs.Map.{lookup}
-use Rattle.std.specs.Option.{option_copied}
+use Rattle.std.proofs.Common.{of_calls, map, sym, ap}
 use Rattle.insertion_map.specs.Places.{hash_value}
-use Rattle.insertion_map.proofs.PlaceLemmas.{found-in-none, from-last, none-of-hash}
+use Rattle.insertion_map.proofs.HashLemmas.{found-by}
+use Rattle.insertion_map.proofs.KeyLemmas.{any-is, place-is}
 use Rattle.insertion_map.proofs.places.KeyPlaces.place_of.Goals as goal
 
-pub place_from-requires-clause-from : goal.place_from-requires-clause-from
-place_from-requires-clause-from g c =
-    let last = c.self.inside.last.entries in
-    let e : lookup (nat_eq (hash_value (g.K.Hash.hash_input c.args.key.now))) last ≡ Some c.in-Some.last.now =
-    ap (λ h. lookup (nat_eq h) last) (sym c.requires) ∙ sym c.get.ensures.value ∙ ap option_copied c.in-Some.is in
-    rw (c.as_slice.ensures.value, c.as_slice-in-Some.ensures.value)
-    (from-last g.met.K.Eq.laws (λ key. hash_value (g.K.Hash.hash_input key)) (λ x y e. ap hash_value (g.met.K.Hash.respects_eq x y e)) _ _ _ c.self.invariant c.args.key.now c.in-Some.last.now e)
-
-pub returns-in-None-clause-place : goal.returns-in-None-clause-place
-returns-in-None-clause-place g c =
-    let last = c.self.inside.last.entries in
-    let e : lookup (nat_eq (hash_value (g.K.Hash.hash_input c.args.key.now))) last ≡ None =
-    ap (λ h. lookup (nat_eq h) last) (sym c.requires) ∙ sym c.get.ensures.value ∙ ap option_copied c.in-None.is in
+pub returns-clause-place : goal.returns-clause-place
+returns-clause-place g c =
     rw (sym (ap (λ k. k.keys) c.self.view_is))
-    (sym (found-in-none g.met.K.Eq.laws (λ key. hash_value (g.K.Hash.hash_input key)) (λ x y e. ap hash_value (g.met.K.Hash.respects_eq x y e)) _ _ _ c.self.invariant c.args.key.now e))
+    (place-is g.met.K.Eq.laws (λ key. hash_value (g.K.Hash.hash_input key)) (λ x y e. ap hash_value (g.met.K.Hash.respects_eq x y e)) c.self.inside.keys.items c.self.inside.places c.self.invariant c.args.key.now c.args.hash c.find.result c.requires
+    (found-by _ _ _ _ _ (c.find.ensures (map (λ key. hash_value (g.K.Hash.hash_input key)) c.self.inside.keys.items) c.self.invariant.places_are) (λ p is post. search (of_calls, post) parts 8)))
 
-pub returns-in-None-clause-found : goal.returns-in-None-clause-found
-returns-in-None-clause-found g c =
-    let last = c.self.inside.last.entries in
-    let e : lookup (nat_eq (hash_value (g.K.Hash.hash_input c.args.key.now))) last ≡ None =
-    ap (λ h. lookup (nat_eq h) last) (sym c.requires) ∙ sym c.get.ensures.value ∙ ap option_copied c.in-None.is in
+pub returns-clause-found : goal.returns-clause-found
+returns-clause-found g c =
     rw (sym (ap (λ k. k.keys) c.self.view_is))
-    (sym (none-of-hash g.met.K.Eq.laws (λ key. hash_value (g.K.Hash.hash_input key)) (λ x y e. ap hash_value (g.met.K.Hash.respects_eq x y e)) _ _ _ c.self.invariant c.args.key.now e))
+    (any-is g.met.K.Eq.laws (λ key. hash_value (g.K.Hash.hash_input key)) (λ x y e. ap hash_value (g.met.K.Hash.respects_eq x y e)) c.self.inside.keys.items c.self.inside.places c.self.invariant c.args.key.now c.args.hash c.find.result c.requires
+    (found-by _ _ _ _ _ (c.find.ensures (map (λ key. hash_value (g.K.Hash.hash_input key)) c.self.inside.keys.items) c.self.invariant.places_are) (λ p is post. search (of_calls, post) parts 8)))

@@ -1,8 +1,8 @@
-use Rattle.std.proofs.Common.{◌≡◌, ◌≤◌, ◌<◌, ◌++◌, ◌∷◌, List, [], Some, get_or, length, map, take, sym, ap, ◌∙◌, arith}
+use Rattle.std.proofs.Common.{◌≡◌, ◌≤◌, ◌<◌, List, [], Some, get_or, length, refl, sym, ap, ◌∙◌, arith}
 use Rattle.std.proofs.lemmas.List.{map_push, take_all, take_more}
 use Rattle.std.proofs.lemmas.Option.{slice_get-get_or}
 use Rattle.cell_types.specs.Value.{CellValue, null, value_view}
-use Rattle.row_columns.proofs.RowLemmas.{cell_is}
+use Rattle.value_rows.proofs.RowLaws.{cell-is}
 use Rattle.row_columns.proofs.columns.Columns.row.Goals as goal
 
 pub loop-col-preserved : goal.loop-col-preserved
@@ -13,10 +13,8 @@ loop-col-preserved c =
     let col = c.loop-col.col in
     let wide = c.rows_are_wide.ensures c.args.row none c.requires in
     let within : col < length row = omega (arith, c.loop-col-test.true, c.width-width.ensures, wide) in
-    let is : value_view c.value.result ≡ get_or row col null = cell_is rows c.args.row col (value_view c.value.result) c.value.ensures in
-    ap (map value_view) c.in_ok-push.ensures.items ∙ map_push value_view c.loop-col.values.items c.value.result
-    ∙ ap (λ vs. vs ++ value_view c.value.result ∷ []) c.loop-col.invariant
-    ∙ ap (λ v. take col row ++ v ∷ []) is ∙ sym (take_more row col null within)
+    let is : value_view c.value.result ≡ get_or row col null = cell-is rows c.args.row col (value_view c.value.result) c.value.ensures in
+    rw (c.in_ok-push.ensures.items, map_push value_view c.loop-col.values.items c.value.result, c.loop-col.invariant, is, take_more row col null within) refl
 
 pub returns : goal.returns
 returns c =

@@ -1,4 +1,4 @@
-use Rattle.std.proofs.Common.{◌<◌, ◌^◌, List, ap, arith, get_or, length, subst, sym, ◌∙◌, ℕ}
+use Rattle.std.proofs.Common.{◌<◌, ◌^◌, List, ap, arith, length, subst, sym}
 use Rattle.std.specs.List.{All}
 use Rattle.std.proofs.lemmas.List.{get_or_append_left}
 use Rattle.row_columns.specs.declared.row_numbers.Chunk.{Chunk}
@@ -17,6 +17,5 @@ number_in-requires-clause-place c = omega (arith, c.if-place-self.false, c.self.
 pub returns : goal.returns
 returns c =
     let v = c.self.inside in
-    c.number_in.ensures ∙ ap (λ (cs : List Chunk). get_or (chunked_numbers cs) c.args.place 0) c.as_slice.ensures.value
-    ∙ sym (get_or_append_left (chunked_numbers v.chunks.items) v.listed.items 0 c.args.place (omega (arith, c.if-place-self.false, c.self.invariant.count)))
-    ∙ ap (λ (ns : List ℕ). get_or ns c.args.place 0) c.self.view_is
+    rw (c.number_in.ensures, c.as_slice.ensures.value, ← c.self.view_is)
+    (sym (get_or_append_left (chunked_numbers v.chunks.items) v.listed.items 0 c.args.place (omega (arith, c.if-place-self.false, c.self.invariant.count))))

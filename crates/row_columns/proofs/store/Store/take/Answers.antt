@@ -8,7 +8,7 @@ use Rattle.row_columns.specs.declared.store.Store.TheVariants.{Blocks, Values}
 use Rattle.row_columns.specs.Kinds.{any, of_kind}
 use Rattle.row_columns.specs.Numbers.{numbers_from}
 use Rattle.row_columns.specs.Picked.{numbered, values_at}
-use Rattle.row_columns.specs.Store.{value_rows, IsStoredWide}
+use Rattle.row_columns.specs.Store.{IsStoredWide}
 use Rattle.row_columns.proofs.NumberLemmas.{from-start}
 use Rattle.row_columns.proofs.RowLemmas.{blocks_taken, values_taken}
 use Rattle.row_columns.proofs.StoreLemmas.{rows_wide}
@@ -34,18 +34,19 @@ returns-else-len-gt-NUMBERS-clause-taken c =
     let places = c.args.places.now in
     let found = numbered c.args.rows c.args.block.now.rows in
     let taken = map (values_at places) found in
-    let new = c.rows_taken.new.rows in
+    let new = c.take.new.self in
     let start = c.len-start-in-Values.result in
     let count = c.len-in-Values-2.result in
-    let wide : IsStoredWide (Values arm.field-0 arm.values) = rw arm.is at c.requires.wide in
-    let width : length (replicate arm.field-0 any) ≡ length places = rw arm.is at c.requires.width in
-    let long = subst (λ k. AllByRecursion (λ (r : List CellValue). length r ≡ k) taken) (sym width ∙ length-replicate arm.field-0 any) (rows_wide places found) in
+    let wide : IsStoredWide (Values arm.values) = rw arm.is at c.requires.wide in
+    let kinds : length (replicate arm.values.width any) ≡ length places = rw arm.is at c.requires.width in
+    let width : arm.values.width ≡ length places = sym (length-replicate arm.values.width any) ∙ kinds in
+    let long = subst (λ k. AllByRecursion (λ (r : List CellValue). length r ≡ k) taken) (sym width) (rows_wide places found) in
     let numbers : c.as_slice.result.now ≡ c.args.rows = c.as_slice.ensures.value ∙ c.in_ok-numbers-in-Values.ensures in
-    let came : value_rows new.items ≡ value_rows arm.values.items ++ taken =
-    c.in_ok-rows_taken-in-Values.ensures ∙ ap (λ (ns : List ℕ). value_rows arm.values.items ++ map (values_at places) (numbered ns c.args.block.now.rows)) numbers in
-    let first : start ≡ length arm.values.items = omega (arith, c.len-start-in-Values.ensures, arm.values.ok.0) in
+    let came : new.rows ≡ arm.values.rows ++ taken =
+    c.in_ok-take-in-Values.ensures.rows ∙ ap (λ (ns : List ℕ). arm.values.rows ++ map (values_at places) (numbered ns c.args.block.now.rows)) numbers in
+    let first : start ≡ length arm.values.rows = c.len-start-in-Values.ensures in
     let many : count ≡ length taken =
     omega (arith, c.len-in-Values-2.ensures, c.in_ok-numbers-in-Values.numbers.ok.0, ap (λ (ns : List ℕ). length ns) c.in_ok-numbers-in-Values.ensures, length-map found (values_at places), length-map c.args.rows (λ n. get_or c.args.block.now.rows n [])) in
-    let made : map (λ row. start + row) c.all.result ≡ numbers_from (length arm.values.items) (length taken) =
-    ap (map (λ row. start + row)) c.all.ensures ∙ from-start start count ∙ ap (λ a. numbers_from a count) first ∙ ap (numbers_from (length arm.values.items)) many in
-    rw arm.is (values_taken arm.field-0 arm.values new taken (map (λ row. start + row) c.all.result) came long wide made)
+    let made : map (λ row. start + row) c.all.result ≡ numbers_from (length arm.values.rows) (length taken) =
+    ap (map (λ row. start + row)) c.all.ensures ∙ from-start start count ∙ ap (λ a. numbers_from a count) first ∙ ap (numbers_from (length arm.values.rows)) many in
+    rw arm.is (values_taken arm.values new taken (map (λ row. start + row) c.all.result) c.take.ensures.width came long wide made)

@@ -1,0 +1,2 @@
+pub use Rattle.table_store.specs.Block
+pub mod ValueRows
