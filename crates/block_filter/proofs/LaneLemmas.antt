@@ -1,30 +1,18 @@
 -- The columns of a block.
-use Rattle.std.proofs.Common.{◌≡◌, inl, inr, ℕ, suc, ◌+◌, ◌<◌, ◌≤◌, Bool, true, false, Option, Some, None, List, [], ◌∷◌, ◌++◌, length, get_or, refl, sym, ap, ◌∙◌, subst, arith}
-use Rattle.std.specs.Prelude.{option_and_then, if◌then◌else◌, slice_get}
-use Rattle.std.proofs.lemmas.Bool.{cases_eq, cases_lt}
+use Rattle.std.proofs.Common.{◌≡◌, inl, inr, ℕ, suc, ◌+◌, ◌<◌, Option, Some, None, List, [], ◌∷◌, ◌++◌, length, get_or, refl, sym, ap, ◌∙◌, arith}
+use Rattle.std.proofs.lemmas.Bool.{cases_eq, cases_order}
 use Rattle.std.proofs.lemmas.List.{get_or_past, get_or_push, get_or_append_left, get_or-map, length_push}
 use Rattle.std.proofs.lemmas.Option.{get_or_from_slice_get, slice_get_within, slice_get-get_or}
 use Rattle.block_eval.specs.declared.columns.BlockColumn.{BlockColumn}
-use Rattle.block_eval.specs.declared.columns.BlockColumn.TheVariants.{Packed}
-use Rattle.block_eval.specs.Columns.{cell_in_column}
-use denote.Ref.{Bor}
-use Rattle.cell_types.specs.declared.kind.ColumnKind.TheVariants.{Text, Number}
-use Rattle.cell_types.specs.declared.kind.ColumnKind.{ColumnKind}
 use Rattle.block_summary.specs.Ranges.{column_of}
-use Rattle.cell_types.specs.Kind.{kind_of}
 use Rattle.cell_types.specs.Column.{ColumnOf}
-use Rattle.cell_types.specs.Datatype.{is_text}
 use Rattle.cell_types.specs.Value.{CellValue, null}
-use Rattle.table_store.specs.Block.{cells_of_numbers, packed_cells, text_cells}
+use Rattle.table_store.specs.Block.{packed_cells, text_cells}
 use Rattle.table_store.specs.Fits.{HasTableRows, IsTableRow}
 use Rattle.table_store.specs.Table.{TableOf}
 use Rattle.block_filter.specs.Lanes.{AreColumnsOf, AreTextsOf, AreValuesOf, IsColumnOf}
 
 -- ---- the columns of a block
-
--- a column is as a block keeps it
-pub packed_kept : (rows : List (List CellValue)) (place : ℕ) (column : Bor (List CellValue)) → AreValuesOf rows place (Some column.now) → IsColumnOf rows place (Packed column)
-packed_kept rows place column are = λ row h. are row h
 
 -- the first columns
 pub record AreFirstColumns (rows : List (List CellValue)) (columns : List BlockColumn) (i : ℕ) : Type 0 where
@@ -36,30 +24,23 @@ pub one_column_more : (rows : List (List CellValue)) (columns : List BlockColumn
 one_column_more rows columns i column is so_far = record {
   long = length_push columns column ∙ ap (λ k. k + 1) so_far.long;
   each = λ place d within. elim (cases_eq place i) [
-    | inl same ↦
-        let new : column ≡ get_or (columns ++ column ∷ []) i d = sym (get_or_push columns column d i so_far.long) in
-        subst (λ j. IsColumnOf rows j (get_or (columns ++ column ∷ []) j d)) (sym same) (subst (IsColumnOf rows i) new is)
-    | inr other ↦
-        let inside : place < length columns = omega (arith, so_far.long) in
-        subst (IsColumnOf rows place) (sym (get_or_append_left columns (column ∷ []) d place inside)) (so_far.each place d (omega arith))
+    | inl same ↦ rw (same, get_or_push columns column d i so_far.long) is
+    | inr other ↦ rw (get_or_append_left columns (column ∷ []) d place (omega (arith, so_far.long))) (so_far.each place d (omega arith))
   ];
 }
 
 pub columns_are : (rows : List (List CellValue)) (columns : List BlockColumn) (i : ℕ) → AreFirstColumns rows columns i → AreColumnsOf rows columns
-columns_are rows columns i is row h =
-    record {
-      each = λ place column at.
-          is.each place column (omega (arith, slice_get_within columns place column at, is.long)) row h
-          ∙ ap (λ c. Some (cell_in_column c row)) (get_or_from_slice_get columns place column column at);
-    }
+columns_are rows columns i is row h = record {
+  each = λ place column at.
+      rw (← (get_or_from_slice_get columns place column column at)) (is.each place column (omega (arith, slice_get_within columns place column at, is.long)) row h);
+}
 
 -- ---- the texts of a block
 
 pub row_wide : (columns : List ColumnOf) (row : List CellValue) → IsTableRow columns row → length row ≡ length columns
 row_wide [] [] h = refl
-row_wide [] (v ∷ row) h = absurd h
-row_wide (c ∷ columns) [] h = absurd h
 row_wide (c ∷ columns) (v ∷ row) h = ap suc (row_wide columns row h.2)
+row_wide columns row h = absurd h
 
 pub values_stand : (block : TableOf) (col : ℕ) (values : List CellValue) → HasTableRows block → col < length block.schema.columns → values ≡ column_of block.rows col
     → AreValuesOf block.rows col (Some values)
@@ -73,30 +54,12 @@ values_stand block col values fit h are row within =
 pub texts_stand : (block : TableOf) (col : ℕ) (texts : Option (List CellValue)) → HasTableRows block → col < length block.schema.columns → texts ≡ text_cells block col
     → AreValuesOf block.rows col texts
 texts_stand block col None fit h are = tt
-texts_stand block col (Some values) fit h are = values_stand block col values fit h (by (slice_get block.schema.columns col) are)
-  where
-    by : (o : Option ColumnOf) → Some values ≡ option_and_then (λ (column : ColumnOf). if is_text column.datatype then Some (column_of block.rows col) else None) o
-        → values ≡ column_of block.rows col
-    by None e = absurd (cc)
-    by (Some column) e = of_text (is_text column.datatype) e
-      where
-        of_text : (b : Bool) → Some values ≡ (if b then Some (column_of block.rows col) else None) → values ≡ column_of block.rows col
-        of_text true e = cc
-        of_text false e = absurd (cc)
+texts_stand block col (Some values) fit h are = values_stand block col values fit h (grind (arith, are))
 
 pub packed_stand : (block : TableOf) (col : ℕ) (packed : Option (List CellValue)) → HasTableRows block → col < length block.schema.columns → packed ≡ packed_cells block col
     → AreValuesOf block.rows col packed
 packed_stand block col None fit h are = tt
-packed_stand block col (Some values) fit h are = values_stand block col values fit h (by (slice_get block.schema.columns col) are)
-  where
-    by : (o : Option ColumnOf) → Some values ≡ option_and_then (λ (column : ColumnOf). cells_of_numbers (kind_of column.datatype) (column_of block.rows col)) o
-        → values ≡ column_of block.rows col
-    by None e = absurd (cc)
-    by (Some column) e = of_kind (kind_of column.datatype) e
-      where
-        of_kind : (kind : ColumnKind) → Some values ≡ cells_of_numbers kind (column_of block.rows col) → values ≡ column_of block.rows col
-        of_kind Text e = absurd (cc)
-        of_kind (Number kind) e = cc
+packed_stand block col (Some values) fit h are = values_stand block col values fit h (grind (arith, are))
 
 -- the columns of texts so far
 pub record AreTextsTo (rows : List (List CellValue)) (texts : List (Option (List CellValue))) (i : ℕ) : Type 0 where
@@ -107,17 +70,9 @@ pub one_of_texts : (rows : List (List CellValue)) (texts : List (Option (List Ce
     → AreTextsTo rows (texts ++ new ∷ []) (i + 1)
 one_of_texts rows texts i new is so_far = record {
   long = length_push texts new ∙ ap (λ k. k + 1) so_far.long;
-  each = λ place. elim (cases_lt place i) [
-    | inl before ↦
-        let inside : place < length texts = omega (arith, so_far.long, before) in
-        subst (AreValuesOf rows place) (sym (get_or_append_left texts (new ∷ []) None place inside)) (so_far.each place)
-    | inr other ↦ elim (cases_eq place i) [
-      | inl same ↦
-          let at : new ≡ get_or (texts ++ new ∷ []) i None = sym (get_or_push texts new None i so_far.long) in
-          subst (λ j. AreValuesOf rows j (get_or (texts ++ new ∷ []) j None)) (sym same) (subst (AreValuesOf rows i) at is)
-      | inr after ↦
-          let past : length (texts ++ new ∷ []) ≤ place = omega (arith, length_push texts new, so_far.long, other, after) in
-          subst (AreValuesOf rows place) (sym (get_or_past (texts ++ new ∷ []) place None past)) tt
-    ]
+  each = λ place. elim (cases_order place i) [
+    | inl same ↦ rw (same, get_or_push texts new None i so_far.long) is
+    | inr (inl before) ↦ rw (get_or_append_left texts (new ∷ []) None place (omega (arith, so_far.long))) (so_far.each place)
+    | inr (inr after) ↦ rw (get_or_past (texts ++ new ∷ []) place None (omega (arith, length_push texts new, so_far.long))) tt
   ];
 }

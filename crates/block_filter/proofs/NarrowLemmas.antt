@@ -1,19 +1,17 @@
 -- What conditions leave of the rows of a block.
-use Rattle.std.proofs.Common.{◌≡◌, ℕ, zero, suc, ◌+◌, ◌<◌, Bool, true, false, ◌&&◌, ◌||◌, cond, Option, None, Some, List, [], ◌∷◌, length, map, take, drop, replicate, get_or, refl, sym, ap, ◌∙◌, arith}
+use Rattle.std.proofs.Common.{◌≡◌, ℕ, zero, suc, ◌+◌, ◌<◌, Bool, true, false, ◌&&◌, ◌||◌, cond, Option, None, Some, List, [], ◌∷◌, length, map, take, drop, replicate, get_or, refl, sym, ap, ◌∙◌, inl, inr, arith}
 use Rattle.std.specs.Prelude.{Box, count_by, filter, is_none, option_and_then}
-use Rattle.std.specs.List.{All, AllByRecursion, list_any}
-use Rattle.std.proofs.Math.Bool.{or-false}
-use Rattle.std.proofs.lemmas.Bool.{and_parts}
+use Rattle.std.specs.List.{All, list_any}
+use Rattle.std.proofs.lemmas.Bool.{and_parts, cases_Bool}
 use Rattle.std.proofs.lemmas.List.{drop_more, nil_from_length}
-use Rattle.std.proofs.lemmas.List.Elements.{recursion_from_All}
-use Rattle.std.proofs.lemmas.List.Sums.{sum_by-cons}
+use Rattle.std.proofs.lemmas.List.Sums.{length-filter, sum_by-cons}
 use Rattle.cell_types.specs.Column.{ColumnOf}
 use Rattle.cell_types.specs.Rows.{IsTableRow}
 use Rattle.cell_types.specs.Value.{CellValue}
 use Rattle.typed_trees.specs.declared.tree.TruthExpr.{TruthExpr}
 use Rattle.typed_trees.specs.TypedTree.{boxed_truth, TruthExprOf}
 use Rattle.row_eval.specs.declared.truth.Truth.{Truth}
-use Rattle.row_eval.specs.declared.truth.Truth.TheVariants.{False, Null, True}
+use Rattle.row_eval.specs.declared.truth.Truth.TheVariants.{True}
 use Rattle.row_eval.specs.Outcome.{truth_outcome}
 use Rattle.block_eval.specs.declared.columns.BlockColumn.{BlockColumn}
 use Rattle.block_eval.specs.Lanes.{truth_lane, AreOutcomesWithin}
@@ -30,61 +28,32 @@ use Rattle.block_filter.proofs.PassingLemmas.{all_marked, marked_count}
 -- ---- a condition on the rows that are wanted
 
 module _ (p : List CellValue → Bool) where
-  narrowed_row : (b : Bool) (row : List CellValue) (rows : List (List CellValue)) (was now : List Bool) → marked now rows ≡ filter p (marked was rows)
-      → marked (b ∷ now) (row ∷ rows) ≡ cond b (row ∷ filter p (marked was rows)) (filter p (marked was rows))
-  narrowed_row true row rows was now rest = ap (λ xs. row ∷ xs) rest
-  narrowed_row false row rows was now rest = rest
-
-  narrowed_head : (w : Bool) (row : List CellValue) (rows : List (List CellValue)) (was now : List Bool) → marked now rows ≡ filter p (marked was rows)
-      → marked ((w && p row) ∷ now) (row ∷ rows) ≡ filter p (marked (w ∷ was) (row ∷ rows))
-  narrowed_head true row rows was now rest = narrowed_row (p row) row rows was now rest
-  narrowed_head false row rows was now rest = rest
-
   -- where each row is wanted still if a test holds of it, the rows are filtered
   narrowed_rows : (rows : List (List CellValue)) (was now : List Bool) → length was ≡ length rows → length now ≡ length rows
       → ((row : ℕ) → row < length rows → get_or now row false ≡ (get_or was row false && p (get_or rows row []))) → marked now rows ≡ filter p (marked was rows)
   narrowed_rows [] [] [] h g each = refl
-  narrowed_rows [] [] (n ∷ now) h g each = absurd (omega arith)
-  narrowed_rows [] (w ∷ was) now h g each = absurd (omega arith)
-  narrowed_rows (row ∷ rows) [] now h g each = absurd (omega arith)
-  narrowed_rows (row ∷ rows) (w ∷ was) [] h g each = absurd (omega arith)
   narrowed_rows (row ∷ rows) (w ∷ was) (n ∷ now) h g each =
-      ap (λ b. marked (b ∷ now) (row ∷ rows)) (each 0 (omega arith))
-      ∙ narrowed_head w row rows was now (narrowed_rows rows was now (omega arith) (omega arith) (λ k i. each (suc k) (omega (arith, i))))
+      grind (arith, each 0, narrowed_rows rows was now (omega arith) (omega arith) (λ k i. each (suc k) (omega arith)))
+  narrowed_rows rows was now h g each = absurd (omega arith)
 
   -- no row that is wanted passes a test
   none_passes : (was : List Bool) (rows : List (List CellValue)) → ((row : ℕ) → row < length rows → get_or was row false ≡ true → p (get_or rows row []) ≡ false)
       → list_any p (marked was rows) ≡ false
-  none_passes [] rows each = refl
-  none_passes (m ∷ was) [] each = refl
-  none_passes (true ∷ was) (row ∷ rows) each =
-      ap (λ b. b || list_any p (marked was rows)) (each 0 (omega arith) refl) ∙ none_passes was rows (λ k h m. each (suc k) (omega (arith, h)) m)
-  none_passes (false ∷ was) (row ∷ rows) each = none_passes was rows (λ k h m. each (suc k) (omega (arith, h)) m)
+  none_passes (w ∷ was) (row ∷ rows) each = grind (arith, each 0, none_passes was rows (λ k h m. each (suc k) (omega arith) m))
+  none_passes was rows each = refl
 
   -- a wanted row of more rows passes it, where one of them does
   pub one_more : (was : List Bool) (rows : List (List CellValue)) (i : ℕ) → i < length was → length was ≡ length rows
       → list_any p (marked (take (i + 1) was) rows) ≡ (list_any p (marked (take i was) rows) || (get_or was i false && p (get_or rows i [])))
-  one_more [] rows i h long = absurd (omega arith)
-  one_more (m ∷ was) [] i h long = absurd (omega arith)
-  one_more (true ∷ was) (row ∷ rows) zero h long = or-false (p row)
-  one_more (false ∷ was) (row ∷ rows) zero h long = refl
-  one_more (true ∷ was) (row ∷ rows) (suc i) h long =
-      let n : suc i + 1 ≡ suc (i + 1) = omega arith in
-      rw n (ap (λ b. p row || b) (one_more was rows i (omega arith) (omega arith)) ∙ or_assoc (p row) _ _)
-    where
-      or_assoc : (a b c : Bool) → (a || (b || c)) ≡ ((a || b) || c)
-      or_assoc true b c = refl
-      or_assoc false b c = refl
-  one_more (false ∷ was) (row ∷ rows) (suc i) h long =
-      let n : suc i + 1 ≡ suc (i + 1) = omega arith in
-      rw n (one_more was rows i (omega arith) (omega arith))
+  one_more (w ∷ was) (row ∷ rows) zero h long = grind arith
+  one_more (w ∷ was) (row ∷ rows) (suc i) h long = grind (arith, one_more was rows i)
+  one_more was rows i h long = absurd (omega arith)
 
 -- ---- by the truths of a block
 
 keeps_true : (truth : Truth) → keeps_row truth ≡ is_true (Some truth)
 keeps_true True = refl
-keeps_true False = refl
-keeps_true Null = refl
+keeps_true truth = refl
 
 -- what the truths of a block leave of the rows that were wanted
 module _ (e : TruthExprOf) (schema : List ColumnOf) (rows : List (List CellValue)) (ranges : List RangeOf) (columns : List BlockColumn) (was now : List Bool) (truths : List Truth)
@@ -94,45 +63,35 @@ module _ (e : TruthExprOf) (schema : List ColumnOf) (rows : List (List CellValue
   outcome_is row h marked_is =
       outcomes.each row (get_or rows row []) marked_is (are row h) (record { rows = rows; row = row; are_ranges = within; within = h; cells_are = refl; columns = schema; fits = fit row [] h })
 
-  kept_is : (row : ℕ) → row < length rows → (b : Bool) → get_or was row false ≡ b → get_or now row false ≡ (get_or was row false && passes e (get_or rows row []))
-  kept_is row h true is =
-      each row (omega (arith, h, long))
-      ∙ ap (λ b. get_or was row false && b) (keeps_true (truth_lane truths row) ∙ sym (ap is_true (outcome_is row h is)))
-  kept_is row h false is =
-      each row (omega (arith, h, long))
-      ∙ ap (λ b. b && keeps_row (truth_lane truths row)) is ∙ sym (ap (λ b. b && passes e (get_or rows row [])) is)
+  kept_is : (row : ℕ) → row < length rows → get_or now row false ≡ (get_or was row false && passes e (get_or rows row []))
+  kept_is row h = rw (each row (omega (arith, long))) (elim (cases_Bool (get_or was row false)) [
+    | inl is ↦ rw (is, outcome_is row h is) (keeps_true (truth_lane truths row))
+    | inr is ↦ rw is refl
+  ])
 
   pub block_narrows : Narrows e rows was now false
   block_narrows = record {
-    each = λ row h. kept_is row h (get_or was row false) refl;
+    each = kept_is;
     faulted_is = sym (none_passes (faults e) was rows (λ row h is. ap is_none (outcome_is row h is)));
   }
 
 -- ---- conditions in turn
 
-module _ (p q : List CellValue → Bool) where
-  counted_with : (b : Bool) (row : List CellValue) (rows : List (List CellValue)) → count_by q (filter p rows) ≡ count_by (λ r. p r && q r) rows
-      → count_by q (cond b (row ∷ filter p rows) (filter p rows)) ≡ cond (b && q row) 1 0 + count_by (λ r. p r && q r) rows
-  counted_with true row rows e = sum_by-cons (λ r. cond (q r) 1 0) row (filter p rows) ∙ ap (λ n. cond (q row) 1 0 + n) e
-  counted_with false row rows e = omega (arith, e)
+filter-filter : (p q : List CellValue → Bool) (rows : List (List CellValue)) → filter q (filter p rows) ≡ filter (λ r. p r && q r) rows
+filter-filter p q [] = refl
+filter-filter p q (row ∷ rows) = rw (← (filter-filter p q rows)) (elim (cases_Bool (p row)) [ inl e ↦ rw e refl | inr e ↦ rw e refl ])
 
-  counted_filter : (rows : List (List CellValue)) → count_by q (filter p rows) ≡ count_by (λ r. p r && q r) rows
-  counted_filter [] = refl
-  counted_filter (row ∷ rows) = counted_with (p row) row rows (counted_filter rows) ∙ sym (sum_by-cons (λ r. cond (p r && q r) 1 0) row rows)
+counted_filter : (p q : List CellValue → Bool) (rows : List (List CellValue)) → count_by q (filter p rows) ≡ count_by (λ r. p r && q r) rows
+counted_filter p q rows = sym (length-filter q (filter p rows)) ∙ ap length (filter-filter p q rows) ∙ length-filter (λ r. p r && q r) rows
 
 all_counted : (rows : List (List CellValue)) → count_by (passes_each []) rows ≡ length rows
 all_counted [] = refl
-all_counted (row ∷ rows) =
-    let more : count_by (passes_each []) (row ∷ rows) ≡ 1 + count_by (passes_each []) rows = sum_by-cons (λ r. cond (passes_each [] r) 1 0) row rows in
-    let rest = all_counted rows in
-    omega (arith, more, rest)
+all_counted (row ∷ rows) = rw (sum_by-cons (λ r. cond (passes_each [] r) 1 0) row rows, all_counted rows) (omega arith)
 
 one_true : (row : List CellValue) (outcome : Option Truth) → is_true outcome ≡ true
     → cond (is_none outcome || false) None (Some (cond (is_true outcome) (row ∷ []) [])) ≡ Some (row ∷ [])
 one_true row (Some True) is = refl
-one_true row (Some False) is = absurd (cc)
-one_true row (Some Null) is = absurd (cc)
-one_true row None is = absurd (cc)
+one_true row outcome is = absurd (cc)
 
 -- the conditions that are left make of the rows that are wanted what all make of all rows
 pub record AreLeftTo (es left : List TruthExprOf) (rows : List (List CellValue)) (wanted : List Bool) (faulted : Bool) : Type 0 where
@@ -156,9 +115,7 @@ module _ (es : List TruthExprOf) (e : TruthExprOf) (left : List TruthExprOf) (ro
   rows_are = narrowed_rows (passes e) rows was now long same n.each
 
   passing_is : passing e (marked was rows) ≡ unless_faulted faults_here (marked now rows)
-  passing_is =
-      ap (λ b. cond b None (Some (filter (passes e) (marked was rows)))) (sym n.faulted_is)
-      ∙ ap (λ xs. unless_faulted faults_here xs) (sym rows_are)
+  passing_is = rw (← n.faulted_is, ← rows_are) refl
 
   next_passed : (faulted : Bool) → option_and_then (passing_all (e ∷ left)) (unless_faulted faulted (marked was rows))
       ≡ option_and_then (passing_all left) (unless_faulted (faulted || faults_here) (marked now rows))
@@ -168,9 +125,7 @@ module _ (es : List TruthExprOf) (e : TruthExprOf) (left : List TruthExprOf) (ro
   pub next_left : (faulted : Bool) → AreLeftTo es (e ∷ left) rows was faulted → AreLeftTo es left rows now (faulted || faults_here)
   next_left faulted so_far = record {
     passed = so_far.passed ∙ next_passed faulted;
-    count =
-        so_far.count ∙ sym (counted_filter (passes e) (passes_each left) (marked was rows))
-        ∙ ap (count_by (passes_each left)) (sym rows_are);
+    count = so_far.count ∙ rw rows_are (sym (counted_filter (passes e) (passes_each left) (marked was rows)));
     fits = λ row h m.
         let both = and_parts (get_or was row false) (passes e (get_or rows row [])) (sym (n.each row h) ∙ m) in
         (so_far.fits row h both.0).1 (one_true (get_or rows row []) (truth_outcome e (get_or rows row [])) both.1);
@@ -179,40 +134,24 @@ module _ (es : List TruthExprOf) (e : TruthExprOf) (left : List TruthExprOf) (ro
 -- ---- the end
 
 none_left : (faulted : Bool) (xs : List (List CellValue)) → option_and_then (passing_all []) (unless_faulted faulted xs) ≡ unless_faulted faulted xs
-none_left true xs = refl
-none_left false xs = refl
+none_left faulted xs = grind arith
 
 none_after : (left : List TruthExprOf) (faulted : Bool) → option_and_then (passing_all left) (unless_faulted faulted []) ≡ unless_faulted faulted []
-none_after left true = refl
-none_after left false = none_pass left
-
-none_counted : (left : List TruthExprOf) (xs : List (List CellValue)) → xs ≡ [] → count_by (passes_each left) xs ≡ length xs
-none_counted left xs is = ap (count_by (passes_each left)) is ∙ ap length (sym is)
+none_after left faulted = grind (arith, none_pass left)
 
 -- no condition is left
 pub all_done : (es left : List TruthExprOf) (rows : List (List CellValue)) (made : Narrowed) → left ≡ [] → length made.wanted.items ≡ length rows
     → AreLeftTo es left rows made.wanted.items made.faulted → IsNarrowedBy es rows made
 all_done es left rows made none long so_far =
     let xs = marked made.wanted.items rows in
-    record {
-      long = long;
-      passed = so_far.passed ∙ ap (λ ls. option_and_then (passing_all ls) (unless_faulted made.faulted xs)) none ∙ none_left made.faulted xs;
-      count = so_far.count ∙ ap (λ ls. count_by (passes_each ls) xs) none ∙ all_counted xs;
-    }
+    record { long = long; passed = (rw none at so_far.passed) ∙ none_left made.faulted xs; count = (rw none at so_far.count) ∙ all_counted xs }
 
 -- no row is wanted
 pub none_wanted : (es left : List TruthExprOf) (rows : List (List CellValue)) (made : Narrowed) → count_by is_marked made.wanted.items ≡ 0 → length made.wanted.items ≡ length rows
     → AreLeftTo es left rows made.wanted.items made.faulted → IsNarrowedBy es rows made
 none_wanted es left rows made none long so_far =
-    let xs = marked made.wanted.items rows in
-    let empty : xs ≡ [] = nil_from_length xs (marked_count made.wanted.items rows long ∙ none) in
-    record {
-      long = long;
-      passed =
-          so_far.passed ∙ ap (λ ys. option_and_then (passing_all left) (unless_faulted made.faulted ys)) empty
-          ∙ none_after left made.faulted ∙ ap (unless_faulted made.faulted) (sym empty);
-      count = so_far.count ∙ none_counted left xs empty;
-    }
+    let empty : marked made.wanted.items rows ≡ [] = nil_from_length (marked made.wanted.items rows) (marked_count made.wanted.items rows long ∙ none) in
+    record { long = long; passed = rw empty ((rw empty at so_far.passed) ∙ none_after left made.faulted); count = rw empty (rw empty at so_far.count) }
 
 -- the next of some conditions
 pub next_condition : {A : Type 0} (conditions : List (Box TruthExpr A)) (i : ℕ) (condition : Box TruthExpr A) → i < length conditions → condition ≡ get_or conditions i condition
@@ -221,16 +160,10 @@ next_condition conditions i condition h at = ap (map boxed_truth) (drop_more con
 
 -- ---- rows that are listed
 
-alike_filtered : (p q : ℕ → Bool) (numbers : List ℕ) → AllByRecursion (λ n. p n ≡ q n) numbers → filter p numbers ≡ filter q numbers
-alike_filtered p q [] all = refl
-alike_filtered p q (n ∷ numbers) all =
-    ap (λ b. cond b (n ∷ filter p numbers) (filter p numbers)) all.0
-    ∙ ap (λ ns. cond (q n) (n ∷ ns) ns) (alike_filtered p q numbers all.1)
-
 -- of rows that were wanted those are wanted still on which the condition is true
 pub listed_pass : (e : TruthExprOf) (rows : List (List CellValue)) (was now : List Bool) (faulted : Bool) (numbers : List ℕ) → All (λ n. n < length rows) numbers
     → All (λ n. get_or was n false ≡ true) numbers → Narrows e rows was now faulted → filter (λ n. get_or now n false) numbers ≡ filter (λ n. passes e (get_or rows n [])) numbers
-listed_pass e rows was now faulted numbers within wanted narrows =
-    alike_filtered (λ n. get_or now n false) (λ n. passes e (get_or rows n [])) numbers
-    (recursion_from_All (λ n. get_or now n false ≡ passes e (get_or rows n [])) numbers
-    (λ k d h. narrows.each (get_or numbers k d) (within k d h) ∙ ap (λ b. b && passes e (get_or rows (get_or numbers k d) [])) (wanted k d h)))
+listed_pass e rows was now faulted [] within wanted narrows = refl
+listed_pass e rows was now faulted (n ∷ ns) within wanted narrows =
+    let rest = listed_pass e rows was now faulted ns (λ k d h. within (suc k) d (omega arith)) (λ k d h. wanted (suc k) d (omega arith)) narrows in
+    rw (narrows.each n (within 0 0 (omega arith)), wanted 0 0 (omega arith), rest) refl

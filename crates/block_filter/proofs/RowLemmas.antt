@@ -1,9 +1,9 @@
 -- Rows of a block that are looked at one after another.
-use Rattle.std.proofs.Common.{◌≡◌, inl, inr, ℕ, zero, suc, ◌+◌, ◌<◌, ◌≤◌, Bool, true, false, ◌&&◌, ◌||◌, Option, None, Some, List, [], ◌∷◌, ◌++◌, length, take, get_or, refl, sym, subst, ap, ◌∙◌, arith}
+use Rattle.std.proofs.Common.{◌≡◌, inl, inr, ℕ, zero, suc, ◌+◌, ◌<◌, ◌≤◌, Bool, true, false, ◌&&◌, ◌||◌, Option, Some, List, [], ◌∷◌, ◌++◌, length, take, get_or, refl, sym, ap, ◌∙◌, arith}
 use Rattle.std.specs.Prelude.{is_none, is_some, not, option_and_then, slice_get, slice_set}
 use Rattle.std.specs.List.{All, list_any}
 use Rattle.std.proofs.Math.Bool.{or-false}
-use Rattle.std.proofs.lemmas.Bool.{cases_lt}
+use Rattle.std.proofs.lemmas.Bool.{cases_eq}
 use Rattle.std.proofs.lemmas.List.{get_or-set_other, get_or-set_same, take_all, take_more}
 use Rattle.std.proofs.lemmas.Option.{get_or_from_slice_get, slice_get_within}
 use Rattle.cell_types.specs.Column.{ColumnOf}
@@ -37,47 +37,33 @@ all_narrowed e rows was now i faulted over long so_far = record {
 module _ (e : TruthExprOf) (rows : List (List CellValue)) (was now : List Bool) (i : ℕ) (faulted : Bool) (inside : i < length was) (long : length was ≡ length rows)
     (so_far : AreNarrowed e rows was now i faulted) where
   faults_more : list_any (faults e) (marked (take (i + 1) was) rows) ≡ (faulted || (get_or now i false && faults e (get_or rows i [])))
-  faults_more =
-      one_more (faults e) was rows i inside long
-      ∙ ap (λ b. b || (get_or was i false && faults e (get_or rows i []))) (sym so_far.faulted_is)
-      ∙ ap (λ b. faulted || (b && faults e (get_or rows i []))) (sym (so_far.left i (omega arith)))
+  faults_more = rw (one_more (faults e) was rows i inside long, ← so_far.faulted_is, so_far.left i (omega arith)) refl
 
   -- where it is wanted, what the condition makes of it is written
   pub wanted_row : (outcome : Option Truth) → get_or now i false ≡ true → outcome ≡ truth_outcome e (get_or rows i []) → length now ≡ length was
       → AreNarrowed e rows was (slice_set now i (is_true outcome)) (i + 1) (faulted || is_none outcome)
   wanted_row outcome is made same = record {
-    done = λ k h. elim (cases_lt k i) [
-      | inl low ↦ get_or-set_other now i k (is_true outcome) false (λ same_row. absurd (omega (arith, low, same_row))) ∙ so_far.done k low
-      | inr high ↦
-          let here : k ≡ i = omega (arith, h, high) in
-          subst (λ n. get_or (slice_set now i (is_true outcome)) n false ≡ (get_or was n false && passes e (get_or rows n []))) (sym here)
-          (get_or-set_same now i (is_true outcome) false (omega (arith, inside, same)) ∙ ap is_true made
-          ∙ sym (ap (λ b. b && passes e (get_or rows i [])) (sym (so_far.left i (omega arith)) ∙ is)))
+    done = λ k h. elim (cases_eq k i) [
+      | inl here ↦ rw (here, get_or-set_same now i (is_true outcome) false (omega (arith, inside, same)), made, ← (so_far.left i (omega arith)), is) refl
+      | inr other ↦ get_or-set_other now i k (is_true outcome) false other ∙ so_far.done k (omega arith)
     ];
-    left = λ k h. get_or-set_other now i k (is_true outcome) false (λ same_row. absurd (omega (arith, h, same_row))) ∙ so_far.left k (omega (arith, h));
-    faulted_is =
-        ap (λ o. faulted || is_none o) made ∙ sym (ap (λ b. faulted || (b && faults e (get_or rows i []))) is) ∙ sym faults_more;
+    left = λ k h. get_or-set_other now i k (is_true outcome) false (λ same_row. absurd (omega arith)) ∙ so_far.left k (omega arith);
+    faulted_is = rw (faults_more, is, made) refl;
   }
 
   -- where it is not, it stays so
   pub other_row : get_or now i false ≡ false → AreNarrowed e rows was now (i + 1) faulted
   other_row is = record {
-    done = λ k h. elim (cases_lt k i) [
-      | inl low ↦ so_far.done k low
-      | inr high ↦
-          let here : k ≡ i = omega (arith, h, high) in
-          subst (λ n. get_or now n false ≡ (get_or was n false && passes e (get_or rows n []))) (sym here)
-          (is ∙ sym (ap (λ b. b && passes e (get_or rows i [])) (sym (so_far.left i (omega arith)) ∙ is)))
+    done = λ k h. elim (cases_eq k i) [
+      | inl here ↦ rw (here, ← (so_far.left i (omega arith)), is) refl
+      | inr other ↦ so_far.done k (omega arith)
     ];
-    left = λ k h. so_far.left k (omega (arith, h));
-    faulted_is = sym (faults_more ∙ ap (λ b. faulted || (b && faults e (get_or rows i []))) is ∙ or-false faulted);
+    left = λ k h. so_far.left k (omega arith);
+    faulted_is = rw (faults_more, is) (sym (or-false faulted));
   }
 
 pub none_is : (outcome : Option Truth) (b : Bool) → is_some outcome ≡ not b → is_none outcome ≡ b
-none_is None true e = refl
-none_is None false e = absurd (cc)
-none_is (Some truth) true e = absurd (cc)
-none_is (Some truth) false e = refl
+none_is outcome b e = grind arith
 
 -- ---- the values of a row
 
@@ -91,8 +77,7 @@ module _ (col : ℕ) (value : CellValue) where
       → option_and_then (λ values. slice_get values col) (slice_get rows row) ≡ Some value → values ++ value ∷ [] ≡ take (col + 1) (get_or rows row [])
   value_read rows row values so_far e =
       let there = row_there rows row e in
-      ap (λ vs. vs ++ value ∷ []) so_far ∙ ap (λ v. take col (get_or rows row []) ++ v ∷ []) (sym (get_or_from_slice_get (get_or rows row []) col value null there))
-      ∙ sym (take_more (get_or rows row []) col null (slice_get_within (get_or rows row []) col value there))
+      rw (so_far, take_more (get_or rows row []) col null (slice_get_within (get_or rows row []) col value there), get_or_from_slice_get (get_or rows row []) col value null there) refl
 
 pub row_read : (schema : List ColumnOf) (rows : List (List CellValue)) (row width : ℕ) (values : List CellValue) → All (IsTableRow schema) rows → row < length rows → length schema ≤ width
     → values ≡ take width (get_or rows row []) → values ≡ get_or rows row []

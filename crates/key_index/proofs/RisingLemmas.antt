@@ -1,5 +1,5 @@
 -- Keys of one integer each that rise: one row more, the keys on each side of a row, and what such keys never are.
-use Rattle.std.proofs.Common.{◌≡◌, ◌≢◌, ℕ, ℤ, zero, suc, ◌+◌, ◌<◌, ◌≤◌, ◌<ℤ◌, Bool, false, true, List, [], ◌∷◌, length, take, get_or, None, find, IsTrue, ◌↔◌, refl, sym, ap, subst, ◌∙◌, inl, inr, arith}
+use Rattle.std.proofs.Common.{◌≡◌, ◌≢◌, ℕ, ℤ, zero, suc, ◌+◌, ◌<◌, ◌≤◌, ◌<ℤ◌, Bool, false, List, [], ◌∷◌, length, take, get_or, None, find, IsTrue, ◌↔◌, refl, sym, ap, subst, ◌∙◌, inl, inr, arith}
 use borrow.Author.Count.{below_more as count_more}
 use Rattle.std.specs.Cmp.Lexicographic.{pointwise_decides}
 use Rattle.std.specs.List.{range_with_len}
@@ -18,9 +18,8 @@ use Rattle.key_index.proofs.RowLemmas.{key_value}
 
 -- ---- a list of one item
 pub one_item : {X : Type 0} (xs : List X) (d : X) → length xs ≡ 1 → xs ≡ get_or xs 0 d ∷ []
-one_item [] d e = absurd (omega (arith, e))
 one_item (x ∷ []) d e = refl
-one_item (x ∷ y ∷ xs) d e = absurd (omega (arith, e))
+one_item xs d e = absurd (omega arith)
 
 -- the key of a row, where one column is the key
 pub one_cell : (columns : List ColumnCells) (places : List ℕ) (row : ℕ) (column : ColumnCells) → length places ≡ 1 → get_or places 0 0 < length columns
@@ -32,20 +31,14 @@ one_cell columns places row column one within is =
 
 -- a value that is an integer
 pub int_view : (v : Value) (z : ℤ) → value_view v ≡ integer z → v ≡ V.Int z
-int_view V.Null z e = cc
-int_view (V.Int a) z e = let same : a ≡ z = cc in ap (λ x. V.Int x) same
-int_view (V.Text t) z e = cc
-int_view (V.Bool b) z e = cc
-int_view (V.Date d) z e = cc
-int_view (V.Decimal d) z e = cc
+int_view (V.Int a) z e = cc
+int_view v z e = absurd (cc)
 
 -- ---- rows with the same keys
 pub rising_same : (f g : ℕ → List CellValue) (count : ℕ) → ((row : ℕ) → row < count → f row ≡ g row) → AreRising f count → AreRising g count
 rising_same f g count same rising = record {
-  are = λ row within. sym (same row within) ∙ rising.are row within ∙ ap (λ key. integer (key_number key) ∷ []) (same row within);
-  rise = λ a b less within.
-      subst (λ key. key_number (g a) <ℤ key_number key) (same b within)
-      (subst (λ key. key_number key <ℤ key_number (f b)) (same a (omega (arith, less, within))) (rising.rise a b less within));
+  are = λ row within. rw (← (same row within)) (rising.are row within);
+  rise = λ a b less within. rw (← (same a (omega arith)), ← (same b within)) (rising.rise a b less within);
 }
 
 -- ---- one row more, above the others
@@ -100,19 +93,15 @@ rising-whole keys rising =
 
 find-nowhere : (p : ℕ → Bool) (a n : ℕ) → ((i : ℕ) → a ≤ i → i < a + n → p i ≡ false) → find p (range_with_len a n) ≡ None
 find-nowhere p a zero lacks = refl
-find-nowhere p a (suc n) lacks =
-    let here : p a ≡ false = lacks a (omega arith) (omega arith) in
-    rw here (find-nowhere p (a + 1) n (λ i from to. lacks i (omega arith) (omega arith)))
+find-nowhere p a (suc n) lacks = rw (lacks a (omega arith) (omega arith)) (find-nowhere p (a + 1) n (λ i from to. lacks i (omega arith) (omega arith)))
 
 pub rising-distinct : ((a b : CellValue) → IsTrue (value_eq a b) ↔ (a ≡ b)) → (keys : List (List CellValue)) → AreRising (λ row. get_or keys row []) (length keys) → repeated_row keys ≡ None
 rising-distinct equal keys rising =
-    let same : (a b : List CellValue) → (key_eq a b ≡ true → a ≡ b) × (a ≡ b → key_eq a b ≡ true) = pointwise_decides equal in
     find-nowhere (is_repeated keys) 0 (length keys)
     (λ row _ within. list_any-nowhere (key_eq (get_or keys row [])) (take row keys) []
     (λ k less. false_from_ne_true (key_eq (get_or keys row []) (get_or (take row keys) k []))
     (λ t.
-    let before : k < row = omega (arith, less, length-take row keys) in
-    let one : get_or keys row [] ≡ get_or keys k [] = (same (get_or keys row []) (get_or (take row keys) k [])).0 t ∙ get_or-take row keys k [] before in
+    let before : k < row = omega (arith, length-take row keys) in
+    let one = (pointwise_decides equal (get_or keys row []) (get_or (take row keys) k [])).0 t ∙ get_or-take row keys k [] before in
     let rise = rising.rise k row before (omega arith) in
-    let e : key_number (get_or keys row []) ≡ key_number (get_or keys k []) = ap key_number one in
-    absurd (omega (arith, ints, rise, e)))))
+    absurd (omega (arith, ints, rise, ap key_number one)))))

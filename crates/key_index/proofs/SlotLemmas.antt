@@ -1,12 +1,12 @@
 -- Slots: what is reached from one on, and what a row that is put in a free slot changes.
-use Rattle.std.proofs.Common.{◌≡◌, ◌≢◌, ℕ, ◌+◌, ◌-◌, ◌*◌, ◌%◌, ◌^◌, ◌<◌, ◌≤◌, ◌==◌, true, false, cond, nat_lt, List, length, get_or, replicate, set, refl, sym, ap, subst, ◌∙◌, inl, inr, arith}
+use Rattle.std.proofs.Common.{◌≡◌, ◌≢◌, ℕ, ◌+◌, ◌-◌, ◌*◌, ◌%◌, ◌^◌, ◌<◌, ◌≤◌, ◌==◌, cond, List, length, get_or, replicate, set, refl, sym, ap, subst, ◌∙◌, inl, inr, arith}
 use borrow.Author.Count.{below_more}
-use Rattle.std.proofs.lemmas.Bool.{cases_eq, cases_lt, cases_order, cond-false, ne_eqb}
+use Rattle.std.proofs.lemmas.Bool.{cases_eq, cases_lt, cases_order, ne_eqb}
 use Rattle.std.proofs.lemmas.Bool.Decides.{nat_tests}
 use Rattle.std.proofs.lemmas.List.{length-set, get_or_default, get_or-set_same, get_or-set_other}
 use Rattle.std.proofs.lemmas.List.Folds.{sum_by-replicate}
 use Rattle.std.proofs.lemmas.List.Sums.{sum_by-le}
-use Rattle.std.proofs.lemmas.Nat.{div_below, mod_below, mul-le}
+use Rattle.std.proofs.lemmas.Nat.{mod_below, mul-le}
 use Rattle.cell_types.specs.Value.{CellValue}
 use Rattle.key_index.specs.Hashes.{key_hash}
 use Rattle.key_index.specs.declared.slots.Met.{Met}
@@ -72,9 +72,8 @@ module _ (slots : List ℕ) (first raise count : ℕ) (key_at : ℕ → List Cel
 -- ---- a row in a free slot
 module _ (slots : List ℕ) (at held : ℕ) (is : get_or slots at free ≡ free) where
   slot_kept : (p : ℕ) → slot_at slots p ≢ free → slot_at (set slots at held) p ≡ slot_at slots p
-  slot_kept p full =
-      ap (λ n. get_or (set slots at held) (slot_index n p) free) (length-set slots at held)
-      ∙ get_or-set_other slots at (slot_index (length slots) p) held free (λ same. full (ap (λ i. get_or slots i free) same ∙ is))
+  slot_kept p full = rw (length-set slots at held)
+      (get_or-set_other slots at (slot_index (length slots) p) held free (λ same. full (ap (λ i. get_or slots i free) same ∙ is)))
 
   taken_kept : (first place : ℕ) → NoneFree slots first place → NoneFree (set slots at held) first place
   taken_kept first place taken p from to e = taken p from to (sym (slot_kept p (taken p from to)) ∙ e)
@@ -93,22 +92,16 @@ module _ (slots : List ℕ) (at held : ℕ) (is : get_or slots at free ≡ free)
     place = f.place;
     from = f.from;
     to = omega (arith, f.to, length-set slots at held);
-    holds = ap (λ n. get_or (set slots at held) (slot_index n f.place) free) (length-set slots at held)
-        ∙ ap (λ i. get_or (set slots at held) i free) f.same ∙ get_or-set_same slots at held free f.within;
+    holds = rw (length-set slots at held, f.same) (get_or-set_same slots at held free f.within);
     taken = taken_kept (first_slot hash (length slots)) f.place f.taken;
   }
 
 -- no slot that a row raises is a free one
-share-le : (number count : ℕ) → number < 2 ^ 32 → share_of number count ≤ count
-unfolding share_of
-share-le number count less =
-    let most = mul-le number count (2 ^ 32) count (omega (arith, less)) (omega arith) in
-    let below = div_below (number * count) (2 ^ 32) (count + 1) (omega arith) (omega (arith, most)) in
-    omega (arith, below)
-
 raise-le : (hash slots : ℕ) → raise_of hash slots ≤ 0xFFFF_FFFF - slots
-unfolding raise_of
-raise-le hash slots = share-le (hash % 2 ^ 32) (0xFFFF_FFFF - slots) (mod_below hash (2 ^ 32) (omega arith))
+unfolding raise_of share_of
+raise-le hash slots =
+    let most = mul-le (hash % 2 ^ 32) (0xFFFF_FFFF - slots) (2 ^ 32) (0xFFFF_FFFF - slots) (omega (arith, mod_below hash (2 ^ 32) (omega arith))) (omega arith) in
+    omega (arith, most)
 
 pub raised_some : (hash slots row : ℕ) → slots ≤ free → row < slots → raise_of hash slots + row ≢ free
 raised_some hash slots row few within e = absurd (omega (arith, raise-le hash slots, few, within, e))
@@ -119,20 +112,15 @@ pub seated_more : (key_at : ℕ → List CellValue) (slots : List ℕ) (row at :
 seated_more key_at slots row at seated first few room r within =
     let n = length slots in
     let held = raise_of (key_hash (key_at row)) n + row in
-    let size = length-set slots at held in
-    subst (λ m. IsHeld (set slots at held) (first_slot (key_hash (key_at r)) m) (raise_of (key_hash (key_at r)) m + r)) (sym size)
-    (elim (cases_eq r row) [
-      | inl same ↦ subst (λ i. IsHeld (set slots at held) (first_slot (key_hash (key_at i)) n) (raise_of (key_hash (key_at i)) n + i)) (sym same) (held_new slots at held first.is (key_hash (key_at row)) first)
+    rw (length-set slots at held) (elim (cases_eq r row) [
+      | inl same ↦ rw same (held_new slots at held first.is (key_hash (key_at row)) first)
       | inr other ↦ held_kept slots at held first.is (first_slot (key_hash (key_at r)) n) (raise_of (key_hash (key_at r)) n + r)
-          (raised_some (key_hash (key_at r)) n r few (omega (arith, within, other, room))) (seated r (omega (arith, within, other)))
+          (raised_some (key_hash (key_at r)) n r few (omega arith)) (seated r (omega arith))
     ])
 
 -- ---- how many slots are free
 abbrev count_of : ℕ → ℕ
 count_of slot = cond (slot == free) 1 0
-
-count_none : (slot : ℕ) → slot ≢ free → count_of slot ≡ 0
-count_none slot some = cond-false (slot == free) 1 0 (ne_eqb slot free some)
 
 pub all_free : (n : ℕ) → free_slots (replicate n free) ≡ n
 all_free n = let e : free_slots (replicate n free) ≡ n * count_of free = sum_by-replicate count_of n free in omega (arith, e)
@@ -140,16 +128,14 @@ all_free n = let e : free_slots (replicate n free) ≡ n * count_of free = sum_b
 pub none_free : (slots : List ℕ) → ((k : ℕ) → k < length slots → get_or slots k free ≢ free) → free_slots slots ≡ 0
 none_free slots full =
     let most : free_slots slots ≤ length slots * 0 = sum_by-le count_of 0 slots
-    (λ k d within. omega (arith, count_none (get_or slots k d) (λ e. full k within (get_or_default slots k free d within ∙ e)))) in
+    (λ k d within. rw (ne_eqb (get_or slots k d) free (λ e. full k within (get_or_default slots k free d within ∙ e))) (omega arith)) in
     omega (arith, most)
 
 -- ---- the row that has a key
 -- of rows that are seated the key of none is one that none was met with
 pub none_has : (key_at : ℕ → List CellValue) (slots : List ℕ) (count : ℕ) (key : List CellValue) → AreSeated key_at slots count → NoneHas slots count key_at key
     → (row : ℕ) → row < count → key ≢ key_at row
-none_has key_at slots count key seated none row within same =
-    none row within
-    (subst (λ k. IsHeld slots (first_slot (key_hash k) (length slots)) (raise_of (key_hash k) (length slots) + row)) (sym same) (seated row within)) same
+none_has key_at slots count key seated none row within same = none row within (rw same (seated row within)) same
 
 -- so where nothing or a free slot was met
 pub none_met : (slots : List ℕ) (count : ℕ) (key_at : ℕ → List CellValue) (key : List CellValue) (met : Met) → IsFirstMet slots count key_at key met
@@ -160,5 +146,4 @@ none_met slots count key_at key Nothing is other = is.1
 
 -- rows with the same keys
 pub seated_same : (f g : ℕ → List CellValue) (slots : List ℕ) (count : ℕ) → ((row : ℕ) → row < count → f row ≡ g row) → AreSeated f slots count → AreSeated g slots count
-seated_same f g slots count same seated row within =
-    subst (λ k. IsHeld slots (first_slot (key_hash k) (length slots)) (raise_of (key_hash k) (length slots) + row)) (same row within) (seated row within)
+seated_same f g slots count same seated row within = rw (← (same row within)) (seated row within)

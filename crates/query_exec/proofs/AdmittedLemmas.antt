@@ -1,15 +1,15 @@
 -- The blocks that tests admit, by their summaries.
-use Rattle.std.proofs.Common.{◌≡◌, inl, inr, ℕ, suc, zero, ◌+◌, ◌*◌, ◌/◌, ◌<◌, ◌≤◌, ◌&&◌, Bool, true, false, cond, None, List, [], ◌∷◌, ◌++◌, length, drop, get_or, refl, sym, ap, ◌∙◌, subst, arith, append-nil}
+use Rattle.std.proofs.Common.{◌≡◌, inl, inr, ℕ, suc, zero, ◌+◌, ◌*◌, ◌/◌, ◌<◌, ◌≤◌, Bool, true, false, cond, None, List, [], ◌∷◌, ◌++◌, length, drop, get_or, refl, sym, ap, ◌∙◌, arith, append-nil}
 use Rattle.std.specs.Prelude.{count_by, filter, nat_lt, slice_index_or}
 use Rattle.std.specs.List.{All, range_with_len}
 use Rattle.std.proofs.lemmas.Bool.{cases_lt, lt-ltb}
-use Rattle.std.proofs.lemmas.List.{get_or_default, get_or_past, length-drop, length-take}
-use Rattle.std.proofs.lemmas.List.Elements.{All-drop, All-take, filter-append}
-use Rattle.std.proofs.lemmas.List.FromFn.{get_or-range_with_len, length-range_with_len}
+use Rattle.std.proofs.lemmas.List.{get_or_default, get_or_past, length-drop, length-take, map-id}
+use Rattle.std.proofs.lemmas.List.Elements.{All-drop, All-take}
+use Rattle.std.proofs.lemmas.List.FromFn.{filter_of_map_range_with_len_more, get_or-range_with_len, length-range_with_len}
 use Rattle.std.proofs.lemmas.List.Sums.{length-filter}
 use Rattle.block_summary.specs.declared.block.TheConstants.{BLOCK_ROWS}
 use Rattle.cell_types.specs.declared.comparison.ComparisonOperator.{ComparisonOperator}
-use Rattle.cell_types.specs.declared.comparison.ComparisonOperator.TheVariants.{Equal, NotEqual, GreaterThan, GreaterOrEqual, LessThan, LessOrEqual}
+use Rattle.cell_types.specs.declared.comparison.ComparisonOperator.TheVariants.{Equal, NotEqual, GreaterOrEqual, LessOrEqual}
 use Rattle.block_summary.specs.Blocks.{block_at, block_count}
 use Rattle.block_summary.specs.Laws.{OneRange}
 use Rattle.block_summary.specs.Ranges.{RangeOf, column_of, is_null, no_range, range_of, AreAllNull, AreRangesOf}
@@ -22,15 +22,6 @@ use Rattle.table_store.specs.Table.{TableOf}
 use Rattle.query_plan.specs.Scan.{TestOf, admits_all, admitted_blocks, block_numbers}
 use Rattle.query_exec.specs.Admitted.{admitted_numbers, null_range, ranges_admit}
 
--- ---- one more number
-
-range_more : (a n : ℕ) → range_with_len a (n + 1) ≡ range_with_len a n ++ (a + n) ∷ []
-range_more a zero = let same : a + 0 ≡ a = omega arith in rw same refl
-range_more a (suc n) =
-    let one : suc n + 1 ≡ suc (n + 1) = omega arith in
-    let shifted : a + 1 + n ≡ a + suc n = omega arith in
-    rw one (ap (λ ns. a ∷ ns) (range_more (a + 1) n ∙ ap (λ k. range_with_len (a + 1) n ++ k ∷ []) shifted))
-
 -- the numbers so far are those of the first summaries that admit the tests
 abbrev pub AreAdmitted : List TestOf → List (List RangeOf) → ℕ → List ℕ → Type 0
 AreAdmitted tests summaries i numbers = numbers ≡ filter (λ n. ranges_admit tests (slice_index_or summaries n [])) (range_with_len 0 i)
@@ -40,16 +31,20 @@ module _ (tests : List TestOf) (summaries : List (List RangeOf)) (i : ℕ) (rang
   one_more : filter (λ n. ranges_admit tests (slice_index_or summaries n [])) (range_with_len 0 (i + 1)) ≡ numbers ++ cond (ranges_admit tests ranges) (i ∷ []) []
   one_more =
       let p : ℕ → Bool = λ n. ranges_admit tests (slice_index_or summaries n []) in
-      let start : 0 + i ≡ i = omega arith in
-      ap (filter p) (range_more 0 i ∙ ap (λ k. range_with_len 0 i ++ k ∷ []) start) ∙ filter-append p (range_with_len 0 i) (i ∷ [])
-      ∙ ap (λ ns. ns ++ cond (p i) (i ∷ []) []) (sym so_far)
-      ∙ ap (λ (rs : List RangeOf). numbers ++ cond (ranges_admit tests rs) (i ∷ []) []) (get_or_default summaries i [] ranges inside ∙ sym at)
+      rw (
+        ← (map-id (range_with_len 0 (i + 1))),
+        filter_of_map_range_with_len_more p (λ n. n) 0 i i (omega arith),
+        map-id (range_with_len 0 i),
+        ← so_far,
+        get_or_default summaries i [] ranges inside,
+        ← at,
+      ) refl
 
   pub one_admitted : ranges_admit tests ranges ≡ true → AreAdmitted tests summaries (i + 1) (numbers ++ i ∷ [])
-  one_admitted is = sym (one_more ∙ ap (λ (b : Bool). numbers ++ cond b (i ∷ []) []) is)
+  one_admitted is = rw (one_more, is) refl
 
   pub one_passed_over : ranges_admit tests ranges ≡ false → AreAdmitted tests summaries (i + 1) numbers
-  one_passed_over is = sym (one_more ∙ ap (λ (b : Bool). numbers ++ cond b (i ∷ []) []) is ∙ append-nil numbers)
+  one_passed_over is = rw (one_more, is) (sym (append-nil numbers))
 
 -- ---- a column that is not there
 
@@ -59,7 +54,7 @@ all_null (row ∷ rows) col short zero = get_or_past row col null (short 0 row (
 all_null (row ∷ rows) col short (suc i) = all_null rows col (λ k d h. short (suc k) d (omega (arith, h))) i
 
 first_counts : (v : CellValue) (vs : List CellValue) → v ≡ null → 0 < count_by is_null (v ∷ vs)
-first_counts v vs is = subst (λ w. 0 < count_by is_null (w ∷ vs)) (sym is) (let more = length-filter is_null (null ∷ vs) in omega (arith, more))
+first_counts v vs is = rw is (omega (arith, length-filter is_null (null ∷ vs)))
 
 has_nulls : (rows : List (List CellValue)) (col : ℕ) → 0 < length rows → All (λ row. length row ≤ col) rows → 0 < count_by is_null (column_of rows col)
 has_nulls [] col some short = absurd (omega (arith, some))
@@ -67,17 +62,11 @@ has_nulls (row ∷ rows) col some short = first_counts (slice_index_or row col n
 
 nulls_admit : (op : ComparisonOperator) (n : ℕ) (v : CellValue) → nat_lt 0 n ≡ true → admits op null_range v ≡ admits op (record { least = None; greatest = None; null_count = n }) v
 nulls_admit Equal n null h = sym h
-nulls_admit Equal n v h = refl
+nulls_admit GreaterOrEqual n null h = sym h
+nulls_admit LessOrEqual n null h = sym h
 nulls_admit NotEqual n null h = refl
 nulls_admit NotEqual n v h = rw h refl
-nulls_admit GreaterThan n null h = refl
-nulls_admit GreaterThan n v h = refl
-nulls_admit GreaterOrEqual n null h = sym h
-nulls_admit GreaterOrEqual n v h = refl
-nulls_admit LessThan n null h = refl
-nulls_admit LessThan n v h = refl
-nulls_admit LessOrEqual n null h = sym h
-nulls_admit LessOrEqual n v h = refl
+nulls_admit op n v h = refl
 
 -- ---- the blocks of a table
 
@@ -101,29 +90,22 @@ module _ (law : OneRange) (ranges : List RangeOf) (rows : List (List CellValue))
 
   same_tests : (tests : List TestOf) → ranges_admit tests ranges ≡ admits_all tests rows
   same_tests [] = refl
-  same_tests (t ∷ ts) =
-      ap (λ b. b && ranges_admit ts ranges) (same_test t.op t.column t.literal)
-      ∙ ap (λ b. admits t.op (range_of (column_of rows t.column)) t.literal && b) (same_tests ts)
+  same_tests (t ∷ ts) = rw (same_test t.op t.column t.literal, same_tests ts) refl
 
 same_filter : (p q : ℕ → Bool) (ns : List ℕ) → All (λ n. p n ≡ q n) ns → filter p ns ≡ filter q ns
 same_filter p q [] each = refl
-same_filter p q (n ∷ ns) each =
-    ap (λ b. cond b (n ∷ filter p ns) (filter p ns)) (each 0 n (omega arith))
-    ∙ ap (λ ks. cond (q n) (n ∷ ks) ks) (same_filter p q ns (λ k d h. each (suc k) d (omega (arith, h))))
+same_filter p q (n ∷ ns) each = rw (each 0 n (omega arith), same_filter p q ns (λ k d h. each (suc k) d (omega arith))) refl
 
 row_width : (columns : List ColumnOf) (row : List CellValue) → IsTableRow columns row → length row ≡ length columns
 row_width [] [] is = refl
-row_width [] (v ∷ row) is = absurd is
-row_width (c ∷ columns) [] is = absurd is
 row_width (c ∷ columns) (v ∷ row) is = ap suc (row_width columns row is.2)
+row_width columns row is = absurd is
 
 inside_rows : (rows number : ℕ) → number < (rows + 4_095) / 4_096 → number * 4_096 < rows
-inside_rows rows number h = omega (arith, h)
+inside_rows rows number h = omega arith
 
 some_rows : (rows : List (List CellValue)) (number : ℕ) → number < block_count (length rows) → 0 < length (block_at rows number)
-some_rows rows number h =
-    let inside = inside_rows (length rows) number h in
-    omega (arith, inside, length-take BLOCK_ROWS (drop (number * BLOCK_ROWS) rows), length-drop (number * BLOCK_ROWS) rows)
+some_rows rows number h = omega (arith, inside_rows (length rows) number h, length-take BLOCK_ROWS (drop (number * BLOCK_ROWS) rows), length-drop (number * BLOCK_ROWS) rows)
 
 -- the summaries that admit the tests are those of the blocks that do
 pub admitted_are : OneRange → (tests : List TestOf) (table : TableOf) (summaries : List (List RangeOf)) → HasTableRows table → AreSummariesOf table summaries

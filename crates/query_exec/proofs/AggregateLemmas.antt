@@ -1,18 +1,17 @@
 -- Aggregates of rows, or of groups of them.
-use Rattle.std.proofs.Common.{◌≡◌, ℕ, ◌<◌, ◌^◌, Option, Some, None, List, [], ◌∷◌, ◌++◌, length, map, refl, sym, ap, ◌∙◌, subst}
-use Rattle.std.specs.Prelude.{IfSome, option_and_then}
+use Rattle.std.proofs.Common.{◌≡◌, ℕ, ◌<◌, ◌^◌, Option, Some, None, List, [], ◌++◌, length, map, refl, sym, ap, ◌∙◌}
+use Rattle.std.specs.Prelude.{IfSome}
 use Rattle.std.specs.Borrow.{Bor}
 use Rattle.std.specs.List.{All}
 use Rattle.std.proofs.lemmas.List.{length-append, length-map}
-use Rattle.std.proofs.lemmas.List.Elements.{recursion_from_All}
 use Rattle.cell_types.specs.Value.{CellValue}
 use Rattle.odata_query.specs.declared.aggregate.Aggregate.{Aggregate}
-use Rattle.odata_query.specs.declared.aggregate.Aggregate.TheVariants.{Count, SumOfIntegers, SumOfDecimals, Min, Max, CountDistinct}
+use Rattle.odata_query.specs.declared.aggregate.Aggregate.TheVariants.{Count}
 use Rattle.odata_query.specs.Aggregate.{NamedAggregateOf, aggregates_view}
 use Rattle.odata_query.specs.Query.{optional_numbers}
 use Rattle.query_meaning.specs.Meaning.{ResultOf}
 use Rattle.query_plan.specs.Fitting.{AggregateFits, IsFitNode}
-use Rattle.query_plan.specs.Plan.{node_names, node_result, nodes_result}
+use Rattle.query_plan.specs.Plan.{node_names, node_result}
 use Rattle.table_store.specs.Table.{TableOf}
 use Rattle.row_columns.specs.Picked.{numbered}
 use Rattle.row_selection.specs.Numbers.{numbers_from}
@@ -27,7 +26,7 @@ use Rattle.query_exec.specs.Steps.{aggregate_node, without_count}
 use Rattle.result_rows.specs.Kept.{kept_names, kept_places, HasKept, HasSameColumns}
 use Rattle.result_rows.specs.Selected.{selected_rows}
 use Rattle.query_exec.specs.Sink.{MayPush, PushesOn, SinkGives}
-use Rattle.query_exec.proofs.CountLemmas.{selected_long, selected_numbered}
+use Rattle.result_rows.proofs.SelectedLemmas.{as_many_rows, selected_numbers}
 use Rattle.result_rows.proofs.KeptLemmas.{as_many}
 use Rattle.row_columns.proofs.NumberedLaws.{all_numbered, all_within}
 
@@ -55,18 +54,12 @@ pub aggregate_makes : (places : Option (List ℕ)) (aggregates : List NamedAggre
     → made.names ≡ node_names (aggregate_node places aggregates) r.names → made.rows ≡ gathered_rows places aggregates r.rows → made.count ≡ r.count
     → node_result (aggregate_node places aggregates) r ≡ Some made
 aggregate_makes places aggregates r made names rows count =
-    aggregate_made places aggregates r
-    ∙ ap (λ ns. Some (record r { names = ns; rows = gathered_rows places aggregates r.rows })) (sym names) ∙ ap (λ rs. Some (record r { names = made.names; rows = rs })) (sym rows)
-    ∙ ap (λ n. Some (record made { count = n })) (sym count)
+    aggregate_made places aggregates r ∙ rw (← names, ← rows, ← count) refl
 
 -- it fits a result of `width` columns
 aggregate_fits : (r : ResultOf) (width : ℕ) → length r.names ≡ width → length r.rows < 2 ^ 64 → (a : Aggregate) → AggregateFits r a → FitsAll width r.rows a
 aggregate_fits r width long few Count fit = few
-aggregate_fits r width long few (SumOfIntegers place) fit = (subst (λ n. place < n) long fit.0, fit.1)
-aggregate_fits r width long few (SumOfDecimals place) fit = (subst (λ n. place < n) long fit.0, fit.1)
-aggregate_fits r width long few (Min place) fit = subst (λ n. place < n) long fit
-aggregate_fits r width long few (Max place) fit = subst (λ n. place < n) long fit
-aggregate_fits r width long few (CountDistinct place) fit = subst (λ n. place < n) long fit
+aggregate_fits r width long few a fit = rw long at fit
 
 module _ (r : ResultOf) (width : ℕ) (long : length r.names ≡ width) where
   pub aggregates_fit : (places : Option (List ℕ)) (aggregates : List NamedAggregateOf) → length r.rows < 2 ^ 64 → IsFitNode (aggregate_node places aggregates) r
@@ -77,12 +70,12 @@ module _ (r : ResultOf) (width : ℕ) (long : length r.names ≡ width) where
   pub places_fit : (places : Option (List ℕ)) (aggregates : List NamedAggregateOf) → IsFitNode (aggregate_node places aggregates) r
       → IfSome places (All (λ place. place < width))
   places_fit None aggregates fit = tt
-  places_fit (Some places) aggregates fit = subst (λ n. All (λ place. place < n) places) long fit.0
+  places_fit (Some places) aggregates fit = rw long at fit.0
 
   pub lent_fit : (places : Option (Bor (List ℕ))) (aggregates : List NamedAggregateOf) → IsFitNode (aggregate_node (lent_places places) aggregates) r
       → IfSome places (λ ps. All (λ place. place < width) ps.now)
   lent_fit None aggregates fit = tt
-  lent_fit (Some places) aggregates fit = subst (λ n. All (λ place. place < n) places.now) long fit.0
+  lent_fit (Some places) aggregates fit = rw long at fit.0
 
 -- ---- rows that are gathered
 
@@ -103,52 +96,36 @@ may_join places aggregates g before more names width gathers long few fit = reco
 pub aggregate_pushed : (old new : AggregateSink) (rows more : List (List CellValue)) (found : Passed) → new.places ≡ old.places → new.aggregates ≡ old.aggregates
     → HasSameColumns old.kept new.kept → new.kept.columns.rows ≡ []
     → more ≡ selected_rows (kept_places old.kept) (numbered found.rows rows) → Adjoins old.aggregator new.aggregator more → PushesOn (sink.Aggregate old) (sink.Aggregate new) rows found
-aggregate_pushed old new rows more found places aggregates columns none more_is joins =
-    let node_is : aggregate_node (optional_numbers new.places) (aggregates_view new.aggregates) ≡ aggregate_node (optional_numbers old.places) (aggregates_view old.aggregates) =
-    ap (λ (ps : _). aggregate_node (optional_numbers ps) (aggregates_view new.aggregates)) places ∙ ap (λ (as_many : _). aggregate_node (optional_numbers old.places) (aggregates_view as_many)) aggregates in
-    record {
-      nodes = ap (λ n. n ∷ []) node_is;
-      columns = columns;
-      pushed = λ before passing are has.
-          let all : before ++ more ≡ before ++ selected_rows (kept_places old.kept) passing = ap (λ rs. before ++ rs) (more_is ∙ ap (selected_rows (kept_places old.kept)) are.first) in
-          record {
-            gathers =
-                subst (λ (ps : _). Gathers new.aggregator (optional_numbers ps) (aggregates_view new.aggregates) (before ++ selected_rows (kept_places old.kept) passing)) (sym places)
-                (subst (λ (as_many : _). Gathers new.aggregator (optional_numbers old.places) (aggregates_view as_many) (before ++ selected_rows (kept_places old.kept) passing)) (sym aggregates)
-                (subst (Gathers new.aggregator (optional_numbers old.places) (aggregates_view old.aggregates)) all
-                (joins (optional_numbers old.places) (aggregates_view old.aggregates) before has.gathers)));
-            none = none;
-          };
-    }
+aggregate_pushed old new rows more found places aggregates columns none more_is joins = record {
+  nodes = rw (places, aggregates) refl;
+  columns = columns;
+  pushed = λ before passing are has. record {
+    gathers = rw (places, aggregates) (rw (more_is, are.first) at (joins (optional_numbers old.places) (aggregates_view old.aggregates) before has.gathers));
+    none = none;
+  };
+}
 
 -- ---- the rows of a block, and the end
 
 pub numbers_within : (numbers : List ℕ) (len : ℕ) → numbers ≡ numbers_from 0 len → All (λ n. n < len) numbers
-numbers_within numbers len is = subst (All (λ n. n < len)) (sym is) (all_within len)
+numbers_within numbers len is = rw is (all_within len)
 
 module _ (old : AggregateSink) (kept : Kept) (block : TableOf) (found : Passed) (numbers : List ℕ) (may : MayPush (sink.Aggregate old) block found)
     (has : HasKept old.kept kept (selected_rows (kept_places old.kept) (numbered numbers block.rows))) (is : numbers ≡ numbers_from 0 (length block.rows)) where
   -- the rows of the block are kept, all of them and no others
   kept_rows : kept.columns.rows ≡ selected_rows (kept_places old.kept) block.rows
-  kept_rows =
-      has.rows ∙ ap (λ rs. rs ++ selected_rows (kept_places old.kept) (numbered numbers block.rows)) may.pushed.none
-      ∙ ap (selected_rows (kept_places old.kept)) (ap (λ ns. numbered ns block.rows) is ∙ all_numbered block.rows)
+  kept_rows = rw (has.rows, may.pushed.none, is, all_numbered block.rows) refl
 
   pub found_within : All (λ n. n < length kept.columns.rows) found.rows
-  found_within =
-      subst (λ k. All (λ n. n < k) found.rows) (sym (ap length kept_rows ∙ selected_long (kept_places old.kept) block.rows)) may.are_found.within
+  found_within = rw (kept_rows, as_many_rows (kept_places old.kept) block.rows) may.are_found.within
 
   pub block_rows : numbered found.rows kept.columns.rows ≡ selected_rows (kept_places old.kept) (numbered found.rows block.rows)
-  block_rows =
-      ap (numbered found.rows) kept_rows
-      ∙ selected_numbered (kept_places old.kept) block.rows found.rows
-      (recursion_from_All (λ n. n < length block.rows) found.rows may.are_found.within)
+  block_rows = rw kept_rows (selected_numbers (kept_places old.kept) block.rows found.rows may.are_found.within)
 
   pub block_may_join : MayJoin old.aggregator (length kept.columns.kinds) (numbered found.rows kept.columns.rows)
   block_may_join =
       let more = selected_rows (kept_places old.kept) may.passing in
-      let rows_are : numbered found.rows kept.columns.rows ≡ more = block_rows ∙ ap (selected_rows (kept_places old.kept)) may.are_found.first in
-      subst (MayJoin old.aggregator (length kept.columns.kinds)) (sym rows_are)
+      rw (block_rows, may.are_found.first)
       (may_join (optional_numbers old.places) (aggregates_view old.aggregates) old.aggregator may.before more (kept_names old.kept) (length kept.columns.kinds) may.pushed.gathers
       (sym (as_many old.kept block.schema may.columns) ∙ sym (ap length has.same.kinds)) may.few may.fits.0)
 
@@ -160,8 +137,5 @@ gathered_finishes s made names gathered count = record {
   gives = λ all has.
       let places = optional_numbers s.places in
       let aggregates = aggregates_view s.aggregates in
-      ap (option_and_then (nodes_result []))
-      (aggregate_makes places aggregates (without_count (kept_names s.kept) all) made names (gathered places aggregates all has.gathers) count);
+      rw (aggregate_makes places aggregates (without_count (kept_names s.kept) all) made names (gathered places aggregates all has.gathers) count) refl;
 }
-
--- ---- what an answer has

@@ -1,5 +1,5 @@
 -- Conditions in turn before the steps of a plan.
-use Rattle.std.proofs.Common.{◌≡◌, ℕ, Option, Some, None, List, [], ◌∷◌, ◌++◌, refl, sym, ap, ◌∙◌, subst, append_assoc, append-nil}
+use Rattle.std.proofs.Common.{◌≡◌, ℕ, Option, Some, None, List, [], ◌∷◌, ◌++◌, refl, ap, ◌∙◌, append_assoc, append-nil}
 use Rattle.std.specs.Prelude.{option_and_then, option_map}
 use Rattle.std.proofs.lemmas.List.{map-append}
 use Rattle.cell_types.specs.Value.{CellValue}
@@ -14,6 +14,21 @@ use Rattle.block_filter.specs.Conditions.{rows_joined, passing_all}
 use Rattle.query_exec.specs.Conditions.{condition_nodes}
 use Rattle.result_rows.specs.Selected.{selected_rows}
 
+-- ---- options
+pub some_of : {A : Type 0} (f : A → Option ResultOf) (o : Option A) (made : ResultOf) → option_and_then f o ≡ Some made → (x : A) × (o ≡ Some x) × (f x ≡ Some made)
+some_of f (Some x) made is = (x, refl, is)
+some_of f None made is = absurd (cc)
+
+pub mapped_of : {B : Type 0} (f : List (List CellValue) → B) (o : Option (List (List CellValue))) (y : B) → option_map f o ≡ Some y
+    → (rows : List (List CellValue)) × (o ≡ Some rows) × (f rows ≡ y)
+mapped_of f (Some rows) y is = (rows, refl, cc)
+mapped_of f None y is = absurd (cc)
+
+pub none_mapped : {A B : Type 0} (f : A → B) (o : Option A) → option_map f o ≡ None → o ≡ None
+none_mapped f None is = refl
+none_mapped f (Some x) is = absurd (cc)
+
+-- ---- conditions
 above : (es : List TruthExprOf) (steps : List NodeOf) (r : ResultOf) (passed : Option (List (List CellValue)))
     → ((rows : List (List CellValue)) → nodes_result (condition_nodes es ++ steps) (record r { rows = rows })
     ≡ option_and_then (λ kept. nodes_result steps (record r { rows = kept })) (passing_all es rows))
@@ -33,8 +48,7 @@ steps_behind (e ∷ es) steps r rows = above es steps r (passing e rows) (steps_
 pub conditions_give : (es : List TruthExprOf) (r : ResultOf) (rows kept : List (List CellValue)) → passing_all es rows ≡ Some kept
     → nodes_result (condition_nodes es) (record r { rows = rows }) ≡ Some (record r { rows = kept })
 conditions_give es r rows kept is =
-    ap (λ ns. nodes_result ns (record r { rows = rows })) (sym (append-nil (condition_nodes es)))
-    ∙ steps_behind es [] r rows ∙ ap (option_and_then (λ k. nodes_result [] (record r { rows = k }))) is
+    rw (← (append-nil (condition_nodes es))) (steps_behind es [] r rows ∙ rw is refl)
 
 -- ---- the columns that are picked after the conditions
 
@@ -76,22 +90,13 @@ pub parts_give : (es : List TruthExprOf) (picked : Option (List ℕ)) (steps : L
     → nodes_result (condition_nodes es ++ select_nodes picked ++ steps) (record r { rows = rows })
     ≡ option_and_then (λ kept. nodes_result steps (record (selected_result picked r) { rows = kept })) (option_map (selected_rows picked) (passing_all es rows))
 parts_give es picked steps r rows =
-    ap (λ ns. nodes_result ns (record r { rows = rows })) (append_assoc (condition_nodes es) (select_nodes picked) steps)
-    ∙ steps_behind es (select_nodes picked ++ steps) r rows ∙ selected_of picked steps r (passing_all es rows)
-
-pub some_selected : (picked : Option (List ℕ)) (passed : Option (List (List CellValue))) (kept : List (List CellValue)) → option_map (selected_rows picked) passed ≡ Some kept
-    → (rows : List (List CellValue)) × (passed ≡ Some rows) × (selected_rows picked rows ≡ kept)
-some_selected picked None kept is = absurd (cc)
-some_selected picked (Some rows) kept is = (rows, refl, cc)
+    rw (append_assoc (condition_nodes es) (select_nodes picked) steps) (steps_behind es (select_nodes picked ++ steps) r rows ∙ selected_of picked steps r (passing_all es rows))
 
 -- and they fit these
 pub parts_fit : NodesInTurn → (es : List TruthExprOf) (picked : Option (List ℕ)) (steps : List NodeOf) (r : ResultOf) (rows kept : List (List CellValue))
     → NodesFit (condition_nodes es ++ select_nodes picked ++ steps) (record r { rows = rows }) → option_map (selected_rows picked) (passing_all es rows) ≡ Some kept
     → NodesFit steps (record (selected_result picked r) { rows = kept })
 parts_fit law es picked steps r rows kept fit is =
-    let passed = some_selected picked (passing_all es rows) kept is in
-    let front = record r { rows = passed.0 } in
-    let right = subst (λ ns. NodesFit ns (record r { rows = rows })) (append_assoc (condition_nodes es) (select_nodes picked) steps) fit in
-    subst (λ rs. NodesFit steps (record (selected_result picked r) { rows = rs })) passed.2
-    (selected_fit picked steps front (law.above_fit (condition_nodes es) (select_nodes picked ++ steps) (record r { rows = rows }) front right
-    (conditions_give es r rows passed.0 passed.1)))
+    let passed = mapped_of (selected_rows picked) (passing_all es rows) kept is in
+    rw (← passed.2) (selected_fit picked steps (record r { rows = passed.0 }) (law.above_fit (condition_nodes es) (select_nodes picked ++ steps) (record r { rows = rows })
+    (record r { rows = passed.0 }) (rw (append_assoc (condition_nodes es) (select_nodes picked) steps) at fit) (conditions_give es r rows passed.0 passed.1)))

@@ -1,21 +1,20 @@
 -- Rows of a block that come too late after those that a sink keeps.
-use Rattle.std.proofs.Common.{◌≡◌, inl, inr, ℕ, suc, ◌<◌, ◌≤◌, ◌-◌, Bool, true, false, cond, Option, Some, None, List, [], ◌∷◌, ◌++◌, append-nil, append_assoc, filter, get_or, length, refl, sym, ap, ◌∙◌, subst, arith}
-use Rattle.std.specs.Prelude.{Err, IfOk, IfSome, Ok, Result, slice_get}
+use Rattle.std.proofs.Common.{◌≡◌, inl, inr, ℕ, ◌<◌, ◌≤◌, ◌-◌, Bool, false, Option, Some, None, List, [], ◌∷◌, ◌++◌, append-nil, append_assoc, filter, get_or, length, refl, sym, ap, ◌∙◌, arith}
+use Rattle.std.specs.Prelude.{Err, IfOk, IfSome, Ok, Result}
 use Rattle.std.specs.declared.alloc.AllocError.{AllocError}
 use Rattle.std.specs.List.{All, AllByRecursion}
 use Rattle.std.proofs.lemmas.Bool.{cases_Bool}
-use Rattle.std.proofs.lemmas.List.{length-map}
-use Rattle.std.proofs.lemmas.List.Elements.{All-from_recursion, recursion_from_All}
+use Rattle.std.proofs.lemmas.List.{get_or-map, length-map}
+use Rattle.std.proofs.lemmas.List.Elements.{All-filter, All-from_recursion, recursion_from_All}
+use Rattle.std.proofs.lemmas.Option.{get_or_from_slice_get, slice_get_within, IfSome_then}
 use Rattle.cell_types.specs.Value.{CellValue, null}
-use Rattle.cell_types.proofs.ListLaws.{AllByRecursion-filter}
 use Rattle.typed_trees.specs.declared.tree.TruthExpr.{TruthExpr}
 use Rattle.typed_trees.specs.TypedTree.{TruthExprOf, truth_view}
-use Rattle.odata_query.specs.Query.{optional_numbers}
 use Rattle.row_eval.specs.Bounds.{NumbersFit}
 use Rattle.row_eval.specs.Logic.{truth_of}
 use Rattle.query_meaning.specs.Filter.{is_true, passes}
 use Rattle.query_meaning.specs.Order.{Item}
-use Rattle.row_columns.specs.Picked.{numbered, values_at}
+use Rattle.row_columns.specs.Picked.{numbered}
 use Rattle.sort_rows.specs.Best.{best_rows}
 use Rattle.sort_rows.specs.Cutoffs.{first_value, is_near, may_precede, ComesLate, HasCalendarDays, IsTest, NeverFault, RowsAreCutOff}
 use Rattle.result_rows.specs.declared.kept.Kept.{Kept}
@@ -25,7 +24,8 @@ use Rattle.result_rows.specs.Kept.{kept_places, HasKept}
 use Rattle.result_rows.specs.Selected.{selected_rows}
 use Rattle.query_exec.specs.Sink.{sink_items}
 use Rattle.query_exec.specs.TopN.{AreFirst, AreTimely}
-use Rattle.query_exec.proofs.CountLemmas.{selected_long}
+use Rattle.result_rows.proofs.SelectedLemmas.{as_many_rows}
+use Rattle.query_exec.proofs.ConditionLemmas.{selected_none}
 use Rattle.query_exec.proofs.DayLemmas.{days_at}
 
 -- ---- the first column
@@ -33,16 +33,11 @@ use Rattle.query_exec.proofs.DayLemmas.{days_at}
 -- a kept cell is that of its column in the block
 source_cell : (places : Option (List ℕ)) (place col : ℕ) (row : List CellValue) → IsSourceOf places place col → get_or row col null ≡ get_or (selected_row places row) place null
 source_cell None place col row is = ap (λ p. get_or row p null) is
-source_cell (Some places) place col row is = sym (value_at places place col row is)
-  where
-    value_at : (ps : List ℕ) (p c : ℕ) (row : List CellValue) → slice_get ps p ≡ Some c → get_or (values_at ps row) p null ≡ get_or row c null
-    value_at [] p c row e = absurd (cc)
-    value_at (q ∷ ps) ℕ.zero c row e = let same : q ≡ c = cc in ap (λ k. get_or row k null) same
-    value_at (q ∷ ps) (suc p) c row e = value_at ps p c row e
+source_cell (Some places) place col row is =
+    rw (get_or-map (λ p. get_or row p null) places place 0 null (slice_get_within places place col is), get_or_from_slice_get places place col 0 is) refl
 
 true_as : (b : Bool) → is_true (Some (truth_of b)) ≡ b
-true_as true = refl
-true_as false = refl
+true_as b = grind arith
 
 -- the condition cuts off, where the kept rows are the first, as many as are asked for
 pub cuts_off : RowsAreCutOff → (items : List Item) (most col : ℕ) (kept : Kept) (rows : List (List CellValue)) (e : TruthExprOf) → NeverFault items → best_rows items most rows ≡ Some kept.columns.rows
@@ -55,7 +50,7 @@ cuts_off law items most col kept rows e never best some enough first tests =
       late = λ row days out.
           let picked = selected_row (kept_places kept) row in
           let is = tests.outcome first.place row picked first.first (source_cell (kept_places kept) first.place col row first.source) days in
-          law.late items most rows kept.columns.rows picked never best some enough (sym (true_as (test picked)) ∙ sym (ap is_true is) ∙ out);
+          law.late items most rows kept.columns.rows picked never best some enough (sym (true_as (test picked)) ∙ (rw is at out));
     }
 
 pub cutoff_made : RowsAreCutOff → (s : TopNSink) (col : ℕ) (r : Result (Option TruthExpr) AllocError) → NeverFault (sink_items s) → AreFirst s → 0 < s.most → s.most ≤ length s.kept.columns.rows
@@ -70,27 +65,16 @@ cutoff_made law s col (Err fault) never first some enough column h = h
 -- ---- more rows are kept
 
 late_after_more : (items : List Item) (most : ℕ) (front more : List (List CellValue)) (row : List CellValue) → ComesLate items most front row → ComesLate items most (front ++ more) row
-late_after_more items most front more row late between others =
-    let best = best_rows items most in
-    ap (λ rs. best (rs ++ row ∷ others)) (append_assoc front more between)
-    ∙ late (more ++ between) others
-    ∙ sym (ap (λ rs. best (rs ++ others)) (append_assoc front more between))
+late_after_more items most front more row late between others = rw (append_assoc front more between) (late (more ++ between) others)
 
 pub cuts_off_more : (items : List Item) (most : ℕ) (old new : Kept) (more : List (List CellValue)) (e : TruthExprOf) → HasKept old new more → CutsOff items most old e → CutsOff items most new e
 cuts_off_more items most old new more e kept cuts = record {
   fits = cuts.fits;
-  late = λ row days out.
-      subst (λ (ps : _). ComesLate items most new.columns.rows (selected_row (optional_numbers ps) row)) (sym kept.same.places)
-      (subst (λ rs. ComesLate items most rs (selected_row (kept_places old) row)) (sym kept.rows)
-      (late_after_more items most old.columns.rows more (selected_row (kept_places old) row) (cuts.late row days out)));
+  late = λ row days out. rw (kept.same.places, kept.rows) (late_after_more items most old.columns.rows more (selected_row (kept_places old) row) (cuts.late row days out));
 }
 
 pub cutoff_more : (s : TopNSink) (new : Kept) (more : List (List CellValue)) → HasKept s.kept new more → HasCutoff s → HasCutoff (record s { kept = new })
-cutoff_more s new more kept has = by s.cutoff has
-  where
-    by : (o : Option TruthExpr) → IfSome o (λ e. CutsOff (sink_items s) s.most s.kept (truth_view e)) → IfSome o (λ e. CutsOff (sink_items s) s.most new (truth_view e))
-    by None h = tt
-    by (Some e) h = cuts_off_more (sink_items s) s.most s.kept new more (truth_view e) kept h
+cutoff_more s new more kept has = IfSome_then s.cutoff has (λ e cuts. cuts_off_more (sink_items s) s.most s.kept new more (truth_view e) kept cuts)
 
 -- ---- rows of a block
 
@@ -111,74 +95,55 @@ module _ (places : Option (List ℕ)) (rows : List (List CellValue)) (p : ℕ �
       → (between : List (List CellValue)) (ns : List ℕ) → best_rows items most (front ++ between ++ listed (filter p ns)) ≡ best_rows items most (front ++ between ++ listed ns)
   late_left_out items most front late between [] = refl
   late_left_out items most front late between (n ∷ ns) =
-      let best = best_rows items most in
       let row = selected_row places (get_or rows n []) in
       elim (cases_Bool (p n)) [
-        | inl e ↦
-            ap (λ b. best (front ++ between ++ listed (cond b (n ∷ filter p ns) (filter p ns)))) e
-            ∙ ap (λ rs. best (front ++ between ++ rs)) (rows_listed places rows n (filter p ns))
-            ∙ ap best (one_between front between row (listed (filter p ns)))
-            ∙ late_left_out items most front late (between ++ row ∷ []) ns
-            ∙ sym (ap best (one_between front between row (listed ns)))
-            ∙ sym (ap (λ rs. best (front ++ between ++ rs)) (rows_listed places rows n ns))
-        | inr e ↦
-            ap (λ b. best (front ++ between ++ listed (cond b (n ∷ filter p ns) (filter p ns)))) e
-            ∙ late_left_out items most front late between ns
-            ∙ sym (late n e between (listed ns))
-            ∙ sym (ap (λ rs. best (front ++ between ++ rs)) (rows_listed places rows n ns))
+        | inl e ↦ rw (e, rows_listed places rows n (filter p ns), rows_listed places rows n ns, one_between front between row (listed (filter p ns)), one_between front between row (listed ns))
+            (late_left_out items most front late (between ++ row ∷ []) ns)
+        | inr e ↦ rw (e, rows_listed places rows n ns) (late_left_out items most front late between ns ∙ sym (late n e between (listed ns)))
       ]
 
   some_fit : (P : List CellValue → Type 0) (ns : List ℕ) → AllByRecursion P (listed ns) → AllByRecursion P (listed (filter p ns))
   some_fit P [] all = all
   some_fit P (n ∷ ns) all =
-      let parts = subst (AllByRecursion P) (rows_listed places rows n ns) all in
+      let parts = rw (rows_listed places rows n ns) at all in
       elim (cases_Bool (p n)) [
-        | inl e ↦
-            subst (λ b. AllByRecursion P (listed (cond b (n ∷ filter p ns) (filter p ns)))) (sym e)
-            (subst (AllByRecursion P) (sym (rows_listed places rows n (filter p ns))) (parts.0, some_fit P ns parts.1))
-        | inr e ↦ subst (λ b. AllByRecursion P (listed (cond b (n ∷ filter p ns) (filter p ns)))) (sym e) (some_fit P ns parts.1)
+        | inl e ↦ rw (e, rows_listed places rows n (filter p ns)) (parts.0, some_fit P ns parts.1)
+        | inr e ↦ rw e (some_fit P ns parts.1)
       ]
+
+-- rows that pass a test are enough, if the first are the same
+module _ (s : TopNSink) (rows : List (List CellValue)) (p : ℕ → Bool) (numbers made : List ℕ) (within : All (λ n. n < length rows) numbers) (is : made ≡ filter p numbers) where
+  passed_are_timely : best_rows (sink_items s) s.most (s.kept.columns.rows ++ listed (kept_places s.kept) rows p (filter p numbers))
+      ≡ best_rows (sink_items s) s.most (s.kept.columns.rows ++ listed (kept_places s.kept) rows p numbers) → AreTimely s rows numbers made
+  passed_are_timely first =
+      let P : List CellValue → Type 0 = λ row. All (λ item. NumbersFit item.0 row) (sink_items s) in
+      let places = kept_places s.kept in
+      rw is (record {
+        within = All-filter p (λ n. n < length rows) numbers within;
+        first = first;
+        fit = λ all.
+            All-from_recursion P (listed places rows p (filter p numbers)) (some_fit places rows p P numbers (recursion_from_All P (listed places rows p numbers) all));
+      })
 
 -- the rows on which the condition is true are enough
 pub passing_are_timely : (s : TopNSink) (e : TruthExprOf) (rows : List (List CellValue)) (numbers made : List ℕ) → CutsOff (sink_items s) s.most s.kept e → All HasCalendarDays rows
     → All (λ n. n < length rows) numbers
     → made ≡ filter (λ n. passes e (get_or rows n [])) numbers → AreTimely s rows numbers made
 passing_are_timely s e rows numbers made cuts days within is =
-    let p : ℕ → Bool = λ n. passes e (get_or rows n []) in
-    let P : List CellValue → Type 0 = λ row. All (λ item. NumbersFit item.0 row) (sink_items s) in
-    let places = kept_places s.kept in
-    subst (AreTimely s rows numbers) (sym is) (record {
-      within =
-          All-from_recursion (λ n. n < length rows) (filter p numbers)
-          (AllByRecursion-filter (λ n. n < length rows) p numbers (recursion_from_All (λ n. n < length rows) numbers within));
-      first =
-          ap (λ rs. best_rows (sink_items s) s.most (rs ++ listed places rows p (filter p numbers))) (sym (append-nil s.kept.columns.rows))
-          ∙ late_left_out places rows p (sink_items s) s.most s.kept.columns.rows (λ n out. cuts.late (get_or rows n []) (days_at rows days n) out) [] numbers
-          ∙ ap (λ rs. best_rows (sink_items s) s.most (rs ++ listed places rows p numbers)) (append-nil s.kept.columns.rows);
-      fit = λ all.
-          All-from_recursion P (selected_rows places (numbered (filter p numbers) rows))
-          (some_fit places rows p P numbers (recursion_from_All P (selected_rows places (numbered numbers rows)) all));
-    })
+    let front = s.kept.columns.rows in
+    passed_are_timely s rows (λ n. passes e (get_or rows n [])) numbers made within is
+    (rw append-nil at (late_left_out (kept_places s.kept) rows (λ n. passes e (get_or rows n [])) (sink_items s) s.most front (λ n out. cuts.late (get_or rows n []) (days_at rows days n) out) [] numbers))
 
 -- ---- rows that are near
 
 module _ (places : Option (List ℕ)) (rows : List (List CellValue)) (p : ℕ → Bool) (q : List CellValue → Bool)
     (alike : (n : ℕ) → p n ≡ q (selected_row places (get_or rows n []))) where
   listed_filtered : (ns : List ℕ) → listed places rows p (filter p ns) ≡ filter q (listed places rows p ns)
-  listed_filtered [] = nothing places
-    where
-      nothing : (ps : Option (List ℕ)) → selected_rows ps [] ≡ filter q (selected_rows ps [])
-      nothing None = refl
-      nothing (Some ps) = refl
-  listed_filtered (n ∷ ns) =
-      let row = selected_row places (get_or rows n []) in
-      either (p n) ∙ ap (λ b. cond b (row ∷ selected_rows places (numbered (filter p ns) rows)) (selected_rows places (numbered (filter p ns) rows))) (alike n)
-      ∙ ap (λ rs. cond (q row) (row ∷ rs) rs) (listed_filtered ns) ∙ ap (filter q) (sym (rows_listed places rows n ns))
-    where
-      either : (b : Bool) → selected_rows places (numbered (cond b (n ∷ filter p ns) (filter p ns)) rows)
-          ≡ cond b (selected_row places (get_or rows n []) ∷ selected_rows places (numbered (filter p ns) rows)) (selected_rows places (numbered (filter p ns) rows))
-      either true = rows_listed places rows n (filter p ns)
-      either false = refl
+  listed_filtered [] = rw (selected_none places) refl
+  listed_filtered (n ∷ ns) = elim (cases_Bool (p n)) [
+    | inl e ↦ rw (e, rows_listed places rows n (filter p ns), rows_listed places rows n ns, ← (alike n), e, listed_filtered ns) refl
+    | inr e ↦ rw (e, rows_listed places rows n ns, ← (alike n), e) (listed_filtered ns)
+  ]
 
 -- the rows that are near are enough, if they are as many as are asked for
 pub near_are_timely : RowsAreCutOff → (s : TopNSink) (e : TruthExprOf) (col : ℕ) (bound : CellValue) (rows : List (List CellValue)) (numbers made : List ℕ) → NeverFault (sink_items s)
@@ -187,7 +152,6 @@ pub near_are_timely : RowsAreCutOff → (s : TopNSink) (e : TruthExprOf) (col : 
 near_are_timely law s e col bound rows numbers made never first tests days within is enough =
     let p : ℕ → Bool = λ n. passes e (get_or rows n []) in
     let q : List CellValue → Bool = is_near (sink_items s) bound in
-    let P : List CellValue → Type 0 = λ row. All (λ item. NumbersFit item.0 row) (sink_items s) in
     let places = kept_places s.kept in
     let alike : (n : ℕ) → p n ≡ q (selected_row places (get_or rows n [])) = λ n.
     let row = get_or rows n [] in
@@ -195,16 +159,9 @@ near_are_timely law s e col bound rows numbers made never first tests days withi
     let all = selected_rows places (numbered numbers rows) in
     let same : selected_rows places (numbered (filter p numbers) rows) ≡ filter q all = listed_filtered places rows p q alike numbers in
     let long : length made ≡ length (filter q all) =
-    ap length is ∙ sym (length-map (filter p numbers) (λ n. get_or rows n [])) ∙ sym (selected_long places (numbered (filter p numbers) rows)) ∙ ap length same in
-    subst (AreTimely s rows numbers) (sym is) (record {
-      within =
-          All-from_recursion (λ n. n < length rows) (filter p numbers)
-          (AllByRecursion-filter (λ n. n < length rows) p numbers (recursion_from_All (λ n. n < length rows) numbers within));
-      first = ap (λ rs. best_rows (sink_items s) s.most (s.kept.columns.rows ++ rs)) same ∙ law.near (sink_items s) s.most s.kept.columns.rows all bound never (omega (arith, enough, long));
-      fit = λ fits.
-          All-from_recursion P (selected_rows places (numbered (filter p numbers) rows))
-          (some_fit places rows p P numbers (recursion_from_All P (selected_rows places (numbered numbers rows)) fits));
-    })
+    rw (is, ← same, as_many_rows places (numbered (filter p numbers) rows)) (sym (length-map (filter p numbers) (λ n. get_or rows n []))) in
+    passed_are_timely s rows p numbers made within is
+    (rw same (law.near (sink_items s) s.most s.kept.columns.rows all bound never (omega (arith, enough, long))))
 
 -- fewer rows in turn
 pub timely_in_turn : (s : TopNSink) (rows : List (List CellValue)) (old mid new : List ℕ) → AreTimely s rows old mid → AreTimely s rows mid new → AreTimely s rows old new

@@ -1,5 +1,5 @@
 -- The dates of the rows of a table.
-use Rattle.std.proofs.Common.{inl, inr, ℕ, zero, suc, List, [], ◌∷◌, get_or, length, sym, subst, arith}
+use Rattle.std.proofs.Common.{inl, inr, ℕ, zero, suc, List, [], ◌∷◌, get_or, length}
 use Rattle.std.specs.Prelude.{IfSome}
 use Rattle.std.specs.List.{All}
 use Rattle.std.proofs.lemmas.Bool.{cases_lt}
@@ -36,5 +36,5 @@ table_days law table rows = λ k d h. row_days _ (get_or table.rows k d) (law.ro
 pub days_at : (rows : List (List CellValue)) → All HasCalendarDays rows → (n : ℕ) → HasCalendarDays (get_or rows n [])
 days_at rows days n = elim (cases_lt n (length rows)) [
   | inl less ↦ days n [] less
-  | inr more ↦ subst HasCalendarDays (sym (get_or_past rows n [] (omega (arith, more)))) (λ place. tt)
+  | inr more ↦ rw (get_or_past rows n [] more) (λ place. tt)
 ]

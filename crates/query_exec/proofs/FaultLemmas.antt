@@ -1,6 +1,6 @@
 -- Items of an order that divide by zero.
-use Rattle.std.proofs.Common.{◌≡◌, ◌∷◌, ◌++◌, ℕ, false, List, Option, Some, None, map, take, subst, sym, ap, ◌∙◌}
-use Rattle.std.specs.Prelude.{IsErrAnd, Result, Ok, Err, option_and_then, option_map, option_to_list}
+use Rattle.std.proofs.Common.{◌≡◌, ◌∷◌, ◌++◌, ℕ, false, List, Option, Some, None, map, refl, ap, ◌∙◌}
+use Rattle.std.specs.Prelude.{IsErrAnd, Result, Err, option_to_list}
 use Rattle.cell_types.specs.Value.{CellValue}
 use Rattle.row_eval.specs.declared.fault.EvalFault.{EvalFault}
 use Rattle.row_eval.specs.declared.fault.EvalFault.TheVariants.{DivisionByZero, NoMemory}
@@ -19,35 +19,27 @@ use Rattle.query_exec.specs.Fault.{exec_fault}
 use Rattle.query_exec.specs.Run.{passed_answer, wanted_block, RunGoesOn}
 use Rattle.query_exec.specs.Sink.{sink_kept, sink_nodes, sorted_items, SinkFinishes}
 use Rattle.query_exec.specs.Steps.{without_count}
-use Rattle.query_exec.proofs.RunLemmas.{some_passed}
+use Rattle.query_exec.proofs.RunLemmas.{fault_on, some_passed}
 
 -- an item divides by zero
 none_made : (items : List Item) (most : Option ℕ) (nodes : List NodeOf) (names : List (List ℕ)) (rows : List (List CellValue)) → ordered items rows ≡ None
     → nodes_result (chosen (sorting items) most ∷ nodes) (without_count names rows) ≡ None
-none_made items None nodes names rows is = ap (λ sorted. option_and_then (nodes_result nodes) (option_map (λ rs. without_count names rs) sorted)) is
-none_made items (Some most) nodes names rows is =
-    ap (λ sorted. option_and_then (nodes_result nodes) (option_map (λ rs. without_count names rs) (option_map (take most) sorted))) is
+none_made items None nodes names rows is = rw is refl
+none_made items (Some most) nodes names rows is = rw is refl
 
 pub sorted_faults : (s : SortedSink) (fault : EvalFault) → ((items : List Item) → HasInRuns items s.runs s.kept.columns.rows → FinishesOrder items s.kept.columns.rows (Err fault))
     → SinkFinishes (sink.Sorted s) (Err fault)
 sorted_faults s DivisionByZero given = λ rows has.
-    none_made (sorted_items s) s.most (map (λ p. slicing (slice_view p)) (option_to_list s.slice) ++ select_nodes (shown_places s.shown)) (kept_names s.kept) rows (ap (ordered (sorted_items s)) (sym has.rows_are) ∙ given (sorted_items s) has.runs_are)
+    none_made (sorted_items s) s.most (map (λ p. slicing (slice_view p)) (option_to_list s.slice) ++ select_nodes (shown_places s.shown)) (kept_names s.kept) rows (rw has.rows_are at (given (sorted_items s) has.runs_are))
 sorted_faults s NoMemory given = tt
 
 -- a fault of the sink too
-sink_fault : (run : Run) (new : Run) (fault : EvalFault) → run.faulted ≡ false → NodesInTurn → wanted_block run ≡ None → SinkFinishes run.sink (Err fault)
-    → RunGoesOn run new (Err (exec_fault fault))
-sink_fault run new DivisionByZero works turn beyond none = (
-  beyond,
-  λ passed has.
-      let some = some_passed run passed has works in
-      let r = without_count (kept_names (sink_kept run.sink)) some.0 in
-      ap (passed_answer run) some.1 ∙ turn.turn (sink_nodes run.sink) (map node_view run.steps.items) r
-      ∙ ap (option_and_then (nodes_result (map node_view run.steps.items))) (none some.0 some.2),
-)
-sink_fault run new NoMemory works turn beyond none = tt
-
 pub sink_goes_on : (run : Run) (new : Run) (fault : EvalFault) (result : Result (Option OrderedOf) ExecFault) → run.faulted ≡ false → NodesInTurn → wanted_block run ≡ None
     → SinkFinishes run.sink (Err fault) → IsErrAnd result (λ made. made ≡ exec_fault fault) → RunGoesOn run new result
-sink_goes_on run new fault (Ok made) works turn beyond none is = absurd is
-sink_goes_on run new fault (Err made) works turn beyond none is = subst (λ f. RunGoesOn run new (Err f)) (sym is) (sink_fault run new fault works turn beyond none)
+sink_goes_on run new fault result works turn beyond none is =
+    fault_on run new fault result beyond
+    (λ e passed has.
+    let some = some_passed run passed has works in
+    let gives = rw e at none in
+    ap (passed_answer run) some.1 ∙ turn.turn (sink_nodes run.sink) (map node_view run.steps.items) (without_count (kept_names (sink_kept run.sink)) some.0)
+    ∙ rw (gives some.0 some.2) refl) is

@@ -1,5 +1,5 @@
 -- The conditions of a plan fit the rows of a block.
-use Rattle.std.proofs.Common.{◌≡◌, ℕ, zero, suc, ◌<◌, List, [], ◌∷◌, ◌++◌, length, get_or, drop, map, take, refl, sym, ap, ◌∙◌, append_assoc, subst, arith}
+use Rattle.std.proofs.Common.{◌≡◌, ℕ, ◌<◌, List, [], ◌∷◌, ◌++◌, length, get_or, drop, map, take, refl, ap, append_assoc, arith}
 use Rattle.std.specs.Prelude.{None, Some, IfSome, Option, option_map, option_to_list}
 use Rattle.std.specs.List.{All}
 use Rattle.std.proofs.lemmas.List.{length-map}
@@ -29,16 +29,8 @@ pub are_rows : (table : TableOf) → HasTableRows table → AreTableRows table.s
 are_rows table rows = record { each = rows.each; count = rows.count }
 
 -- so is one of them
-only : (schema : SchemaOf) (row : List CellValue) → IsTableRow schema.columns row → (k : ℕ) (d : List CellValue) → k < length (row ∷ [])
-    → IsTableRow schema.columns (get_or (row ∷ []) k d)
-only schema row is zero d h = is
-only schema row is (suc k) d h = absurd (omega (arith, h))
-
 one_row : (schema : SchemaOf) (row : List CellValue) → IsTableRow schema.columns row → AreTableRows schema (row ∷ [])
-one_row schema row is = record {
-  each = λ k d h. only schema row is k d h;
-  count = omega arith;
-}
+one_row schema row is = record { each = λ k d h. let first : k ≡ 0 = omega arith in rw first is; count = omega arith }
 
 -- what the conditions compute on a row fits
 conditions_fit : (es : List TruthExprOf) (above : List NodeOf) (names : List (List ℕ)) (count : Option ℕ) (row : List CellValue)
@@ -55,20 +47,15 @@ pub block_fits : (run : Run) (plan : PlanOf) (table : TableOf) (handed : ℕ) (b
 block_fits run plan table handed block has rows same k d h =
     let row = get_or block.rows k d in
     let above = select_nodes (places_of run) ++ steps_of run in
-    let is : IsTableRow table.schema.columns row = subst (λ (s : SchemaOf). IsTableRow s.columns row) same (rows.each k d h) in
-    let fit : NodesFit (condition_nodes (conditions_of run) ++ above) (table_result table.schema (row ∷ [])) =
-    subst (λ ns. NodesFit ns (table_result table.schema (row ∷ [])))
-    (sym has.plan_is ∙ append_assoc (condition_nodes (conditions_of run)) (select_nodes (places_of run)) (steps_of run))
-    (has.fits (row ∷ []) (one_row table.schema row is)) in
-    conditions_fit (conditions_of run) above (table_names table.schema) _ row fit
+    conditions_fit (conditions_of run) above (table_names table.schema) None row
+    (rw (← (append_assoc (condition_nodes (conditions_of run)) (select_nodes (places_of run)) (steps_of run)), has.plan_is) (has.fits (row ∷ []) (one_row table.schema row (rw same at (rows.each k d h)))))
 
 -- ---- the columns that a plan picks after its conditions
 
 picked_within : (picked : Option (List ℕ)) (steps : List NodeOf) (schema : SchemaOf) (rows : List (List CellValue))
     → NodesFit (select_nodes picked ++ steps) (table_result schema rows) → IfSome picked (All (λ place. place < length schema.columns))
 picked_within None steps schema rows fit = tt
-picked_within (Some places) steps schema rows fit =
-    subst (λ n. All (λ place. place < n) places) (length-map schema.columns (λ column. column.name)) fit.0
+picked_within (Some places) steps schema rows fit = rw (length-map schema.columns (λ column. column.name)) at fit.0
 
 no_rows : (schema : SchemaOf) → AreTableRows schema []
 no_rows schema = record { each = λ k d h. absurd (omega (arith, h)); count = omega arith }
@@ -78,9 +65,8 @@ after_conditions : NodesInTurn → ConditionsInTurn → (es : List TruthExprOf) 
     → condition_nodes es ++ select_nodes picked ++ steps ≡ plan.nodes → IsFitFor schema plan → NodesFit (select_nodes picked ++ steps) (table_result schema [])
 after_conditions law turn es picked steps schema plan is fits =
     let r = table_result schema [] in
-    let fit : NodesFit (condition_nodes es ++ (select_nodes picked ++ steps)) r =
-    subst (λ ns. NodesFit ns r) (sym is ∙ append_assoc (condition_nodes es) (select_nodes picked) steps) (fits [] (no_rows schema)) in
-    law.above_fit (condition_nodes es) (select_nodes picked ++ steps) r r fit (conditions_give es r [] [] (turn.none es))
+    law.above_fit (condition_nodes es) (select_nodes picked ++ steps) r r
+    (rw (← (append_assoc (condition_nodes es) (select_nodes picked) steps), is) (fits [] (no_rows schema))) (conditions_give es r [] [] (turn.none es))
 
 -- are columns of the table
 pub places_within : NodesInTurn → ConditionsInTurn → (es : List TruthExprOf) (picked : Option (List ℕ)) (steps : List NodeOf) (schema : SchemaOf) (plan : PlanOf)
@@ -115,4 +101,4 @@ after_piece (Some slice) nodes names fits =
 
 -- columns that are selected next are there
 pub next_within : (places : List ℕ) (nodes : List NodeOf) (names : List (List ℕ)) → FitNames names (projecting places ∷ nodes) → All (λ place. place < length names) places
-next_within places nodes names fits = subst (λ ns. All (λ place. place < length ns) places) fits.names_are fits.fit.0
+next_within places nodes names fits = rw fits.names_are at fits.fit.0

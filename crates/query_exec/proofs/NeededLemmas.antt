@@ -1,6 +1,6 @@
 -- The blocks that are needed, one after another.
-use Rattle.std.proofs.Common.{◌≡◌, ℕ, zero, suc, ◌+◌, ◌-◌, ◌≤◌, Bool, true, false, cond, Option, Some, None, List, [], ◌∷◌, ◌++◌, length, take, drop, refl, ap, ◌∙◌, arith, append-nil}
-use Rattle.std.specs.Prelude.{◌==◌, count_by, option_map, slice_get}
+use Rattle.std.proofs.Common.{◌≡◌, ℕ, zero, suc, ◌+◌, ◌≤◌, Option, Some, None, List, [], ◌∷◌, ◌++◌, length, take, drop, refl, sym, ap, ◌∙◌, arith, append-nil}
+use Rattle.std.specs.Prelude.{count_by, option_map, slice_get}
 use Rattle.std.proofs.Math.Dec.{eqb-suc-zero}
 use Rattle.std.proofs.lemmas.List.{take_all, take_more}
 use Rattle.std.proofs.lemmas.List.Concat.{flat_map-append}
@@ -11,10 +11,11 @@ use Rattle.typed_trees.specs.TypedTree.{TruthExprOf}
 use Rattle.table_store.specs.Block.{block_of}
 use Rattle.table_store.specs.Table.{TableOf}
 use Rattle.query_plan.specs.Plan.{PlanOf, needed}
-use Rattle.query_plan.specs.Scan.{reached, rows_of_blocks, up_to}
+use Rattle.query_plan.specs.Scan.{rows_of_blocks, up_to}
 use Rattle.query_meaning.specs.Filter.{passes_each}
 use Rattle.query_exec.specs.Run.{handed_block, handed_rows, next_block, wanted}
 use Rattle.query_exec.specs.Sink.{room_behind}
+use Rattle.query_exec.proofs.ConditionLemmas.{none_mapped}
 
 -- ---- lists
 
@@ -23,11 +24,6 @@ pub first_left : {X : Type 0} (xs : List X) (i : ℕ) → slice_get (drop i xs) 
 first_left xs zero = refl
 first_left [] (suc i) = refl
 first_left (x ∷ xs) (suc i) = first_left xs i
-
-pub drop_one : {X : Type 0} (xs : List X) (i : ℕ) → drop 1 (drop i xs) ≡ drop (i + 1) xs
-drop_one xs zero = refl
-drop_one [] (suc i) = let n : suc i + 1 ≡ suc (i + 1) = omega arith in rw n refl
-drop_one (x ∷ xs) (suc i) = let n : suc i + 1 ≡ suc (i + 1) = omega arith in rw n (drop_one xs i)
 
 pub one_taken : {X : Type 0} (xs : List X) (i : ℕ) (x : X) → slice_get xs i ≡ Some x → take (i + 1) xs ≡ take i xs ++ x ∷ []
 one_taken xs i x is =
@@ -40,18 +36,6 @@ none_behind (x ∷ xs) (suc i) is = let less = none_behind xs i is in omega (ari
 
 -- ---- the blocks up to a stop
 
-first_of : (b : Bool) (n : ℕ) (ns : List ℕ) → b ≡ false → Some n ≡ slice_get (cond b [] (n ∷ ns)) 0
-first_of true n ns e = absurd (cc)
-first_of false n ns e = refl
-
-same_first : (b : Bool) (m n : ℕ) (ns : List ℕ) → b ≡ false → slice_get (cond b [] (m ∷ ns)) 0 ≡ Some n → n ≡ m
-same_first true m n ns e is = absurd (cc)
-same_first false m n ns e is = cc
-
-behind_first : (b : Bool) (n : ℕ) (ns : List ℕ) → b ≡ false → ns ≡ drop 1 (cond b [] (n ∷ ns))
-behind_first true n ns e = absurd (cc)
-behind_first false n ns e = refl
-
 -- the next block that is needed is the next of those that are left, where the stop looks on
 pub wanted_is_first : (room : Option ℕ) (es : List TruthExprOf) (rows : List (List CellValue)) (left : List ℕ)
     → wanted room (slice_get left 0) ≡ slice_get (up_to room es rows left) 0
@@ -59,20 +43,19 @@ wanted_is_first None es rows left = refl
 wanted_is_first (Some zero) es rows [] = refl
 wanted_is_first (Some zero) es rows (n ∷ ns) = refl
 wanted_is_first (Some (suc room)) es rows [] = refl
-wanted_is_first (Some (suc room)) es rows (n ∷ ns) =
-    first_of (suc room == 0) n (reached es (suc room - count_by (passes_each es) (block_at rows n)) rows ns) (eqb-suc-zero room)
+wanted_is_first (Some (suc room)) es rows (n ∷ ns) = rw (eqb-suc-zero room) refl
 
 -- after it the stop looks for fewer rows
 pub needed_behind : (room : Option ℕ) (es : List TruthExprOf) (rows : List (List CellValue)) (left : List ℕ) (n : ℕ)
     → slice_get (up_to room es rows left) 0 ≡ Some n
     → up_to (room_behind room (count_by (passes_each es) (block_at rows n))) es rows (drop 1 left) ≡ drop 1 (up_to room es rows left)
 needed_behind None es rows left n is = refl
-needed_behind (Some zero) es rows [] n is = absurd (cc)
 needed_behind (Some zero) es rows (m ∷ ns) n is = absurd (cc)
-needed_behind (Some (suc room)) es rows [] n is = absurd (cc)
+needed_behind (Some room) es rows [] n is = absurd (cc)
 needed_behind (Some (suc room)) es rows (m ∷ ns) n is =
-    let left : ℕ → List ℕ = λ k. reached es (suc room - count_by (passes_each es) (block_at rows k)) rows ns in
-    ap left (same_first (suc room == 0) m n (left m) (eqb-suc-zero room) is) ∙ behind_first (suc room == 0) m (left m) (eqb-suc-zero room)
+    let first = rw (eqb-suc-zero room) at is in
+    let same : n ≡ m = cc in
+    rw (eqb-suc-zero room, same) refl
 
 -- ---- the blocks of a table
 
@@ -88,11 +71,7 @@ module _ (plan : PlanOf) (table : TableOf) (handed : ℕ) where
       found None next_is at = absurd (cc)
 
   pub is_no_block : None ≡ handed_block plan table handed → next_block plan table handed ≡ None
-  is_no_block is = found (next_block plan table handed) refl is
-    where
-      found : (next : Option ℕ) → next_block plan table handed ≡ next → None ≡ option_map (block_of table) next → next_block plan table handed ≡ None
-      found (Some number) next_is at = absurd (cc)
-      found None next_is at = next_is
+  is_no_block is = none_mapped (block_of table) (next_block plan table handed) (sym is)
 
   -- the rows of one block more
   pub more_rows : (number : ℕ) → next_block plan table handed ≡ Some number

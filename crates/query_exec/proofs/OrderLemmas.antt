@@ -1,15 +1,16 @@
 -- An order at the end of the steps, and the rows as they stood before it.
-use Rattle.std.proofs.Common.{◌≡◌, ℕ, Bool, true, false, Option, Some, None, List, [], ◌∷◌, ◌++◌, cond, map, append_assoc, inl, inr, refl, sym, ap, ◌∙◌, subst}
+use Rattle.std.proofs.Common.{◌≡◌, ℕ, true, Option, Some, None, List, [], ◌∷◌, ◌++◌, map, append_assoc, inl, inr, refl, sym, ap, ◌∙◌}
 use Rattle.std.specs.Prelude.{option_and_then, option_map}
 use Rattle.std.specs.List.{list_any}
 use Rattle.std.proofs.lemmas.Bool.{cases_Bool}
 use Rattle.query_meaning.specs.Apply.{names_at, values_at}
 use Rattle.std.proofs.lemmas.List.Sorted.{IsPermutation-map, IsPermutation-refl}
+use Rattle.cell_types.proofs.CaseLaws.{cond-None_some}
 use Rattle.cell_types.specs.Value.{CellValue}
 use Rattle.typed_trees.specs.TypedTree.{TruthExprOf}
 use Rattle.query_meaning.specs.Laws.{RowsAreInOrder}
-use Rattle.query_meaning.specs.Order.{Item, order_faults, rows_cmp, sorted}
-use Rattle.query_plan.specs.Plan.{NodeOf, PlanOf, aggregating, choosing, filtering, grouping, node_result, node_view, nodes_result, projecting, select_nodes, slicing, sorting, table_result}
+use Rattle.query_meaning.specs.Order.{Item, order_faults, ordered, rows_cmp, sorted}
+use Rattle.query_plan.specs.Plan.{NodeOf, PlanOf, filtering, node_result, node_view, nodes_result, projecting, select_nodes, sorting, table_result}
 use Rattle.block_filter.specs.Conditions.{passing_all}
 use Rattle.result_rows.specs.Rows.{AreReordered, OrderedOf, RowsOf}
 use Rattle.table_store.specs.Table.{TableOf}
@@ -21,7 +22,7 @@ use Rattle.result_rows.specs.Selected.{selected_rows}
 use Rattle.query_exec.specs.Run.{conditions_of, passed_answer, passed_rows, places_of, steps_of, HasPassed, HasTakenBlocks, IsUnordered, KeepsUnordered}
 use Rattle.query_exec.specs.Sink.{sink_kept, sink_nodes, SinkEnds}
 use Rattle.query_exec.specs.Steps.{without_count}
-use Rattle.query_exec.proofs.ConditionLemmas.{parts_give}
+use Rattle.query_exec.proofs.ConditionLemmas.{mapped_of, parts_give, some_of}
 use Rattle.query_exec.proofs.ReadLemmas.{no_steps, read_rows}
 
 -- ---- steps without an order at their end
@@ -29,16 +30,11 @@ use Rattle.query_exec.proofs.ReadLemmas.{no_steps, read_rows}
 selects_stay : (nodes : List NodeOf) → only_select nodes ≡ true → before_order nodes ≡ nodes
 selects_stay [] all = refl
 selects_stay (projecting places ∷ nodes) all = rw all refl
-selects_stay (filtering e ∷ nodes) all = absurd (cc)
-selects_stay (aggregating aggregates ∷ nodes) all = absurd (cc)
-selects_stay (grouping places aggregates ∷ nodes) all = absurd (cc)
-selects_stay (sorting items ∷ nodes) all = absurd (cc)
-selects_stay (choosing items most ∷ nodes) all = absurd (cc)
-selects_stay (slicing s ∷ nodes) all = absurd (cc)
+selects_stay (node ∷ nodes) all = absurd (cc)
 
 node_stays : (node : NodeOf) (nodes : List NodeOf) → unless_order node ≡ node ∷ [] → before_order (node ∷ nodes) ≡ node ∷ before_order nodes
 node_stays node nodes stays = elim (cases_Bool (only_select nodes)) [
-  | inl e ↦ rw e (ap (λ l. l ++ nodes) stays ∙ ap (λ l. node ∷ l) (sym (selects_stay nodes e)))
+  | inl e ↦ rw (e, stays, selects_stay nodes e) refl
   | inr e ↦ rw e refl
 ]
 
@@ -75,11 +71,6 @@ unordered_is run plan table blocks has none =
 
 -- ---- at the end
 
-pub some_made : (run : Run) (passed : Option (List (List CellValue))) (rows : RowsOf) → passed_answer run passed ≡ Some rows
-    → (all : List (List CellValue)) × (passed ≡ Some all) × (nodes_result (steps_of run) (without_count (kept_names (sink_kept run.sink)) all) ≡ Some rows)
-some_made run None rows is = absurd (cc)
-some_made run (Some all) rows is = (all, refl, is)
-
 -- where no steps are left, what the sink made is the answer
 pub made_unordered : (old new : Run) (sunk made : OrderedOf) → SinkEnds old.sink sunk → new.steps ≡ old.steps → made.taken ≡ 0
     → (map node_view old.steps.items ≡ [] → made ≡ sunk) → KeepsUnordered old new made
@@ -93,61 +84,41 @@ pub ended_unordered : (run new : Run) (plan : PlanOf) (table : TableOf) (blocks 
     → HasPassed run (passed_rows run (read_rows plan table)) → passed_answer run (passed_rows run (read_rows plan table)) ≡ Some given.rows → KeepsUnordered run new given
     → IsUnordered new plan table given
 ended_unordered run new plan table blocks given has passed answer keeps =
-    let some = some_made run (passed_rows run (read_rows plan table)) given.rows answer in
+    let some = some_of (λ rows. nodes_result (steps_of run) (without_count (kept_names (sink_kept run.sink)) rows)) (passed_rows run (read_rows plan table)) given.rows answer in
     record {
       untaken = keeps.untaken;
       unordered_is = λ none.
           let before : map node_view run.steps.items ≡ [] = ap (λ (s : _). map node_view s.items) (sym keeps.steps) ∙ none in
           unordered_is run plan table blocks has before
-          ∙ ap (option_and_then (λ rs. nodes_result (before_order (sink_nodes run.sink)) (without_count (kept_names (sink_kept run.sink)) rs))) some.1
-          ∙ keeps.unordered_is before some.0 (subst (HasPassed run) some.1 passed);
+          ∙ rw some.1 (keeps.unordered_is before some.0 (rw some.1 at passed));
     }
 
 -- ---- an order moves rows
-
-some_step : (f : RowsOf → Option RowsOf) (made : Option RowsOf) (rows : RowsOf) → option_and_then f made ≡ Some rows → (mid : RowsOf) × (made ≡ Some mid) × (f mid ≡ Some rows)
-some_step f None rows is = absurd (cc)
-some_step f (Some mid) rows is = (mid, refl, is)
 
 itself : (made : Option RowsOf) (rows : RowsOf) → made ≡ Some rows → (before : RowsOf) × (made ≡ Some before) × AreReordered before rows
 itself made rows is = (rows, is, record { names = refl; moved = IsPermutation-refl rows.rows })
 
 pub one_order : RowsAreInOrder → (items : List Item) (r rows : RowsOf) → node_result (sorting items) r ≡ Some rows → AreReordered r rows
-one_order law items r rows is = by_faults (list_any (order_faults items) r.rows) refl is
-  where
-    by_faults : (b : Bool) → list_any (order_faults items) r.rows ≡ b
-        → option_map (λ rs. record { names = r.names; rows = rs; count = r.count }) (cond b None (Some (sorted (rows_cmp items) r.rows))) ≡ Some rows → AreReordered r rows
-    by_faults true e is = absurd (cc)
-    by_faults false e is =
-        let same : record { names = r.names; rows = sorted (rows_cmp items) r.rows; count = r.count } ≡ rows = cc in
-        subst (AreReordered r) same (record { names = refl; moved = law.rows items r.rows })
+one_order law items r rows is =
+    let made = mapped_of {B = RowsOf} (λ rs. record { names = r.names; rows = rs; count = r.count }) (ordered items r.rows) rows is in
+    rw (← made.2, ← (cond-None_some (list_any (order_faults items) r.rows) (sorted (rows_cmp items) r.rows) made.0 made.1)) (record { names = refl; moved = law.rows items r.rows })
 
 -- columns that are selected of moved rows are moved
 selects_move : (nodes : List NodeOf) (before r rows : RowsOf) → only_select nodes ≡ true → AreReordered before r → nodes_result nodes r ≡ Some rows
     → (made : RowsOf) × (nodes_result nodes before ≡ Some made) × AreReordered made rows
-selects_move [] before r rows all moved is = let same : r ≡ rows = cc in (before, refl, subst (AreReordered before) same moved)
+selects_move [] before r rows all moved is = let same : r ≡ rows = cc in (before, refl, rw same at moved)
 selects_move (projecting places ∷ nodes) before r rows all moved is =
     selects_move nodes (record { names = names_at places before.names; rows = map (values_at places) before.rows; count = before.count })
     (record { names = names_at places r.names; rows = map (values_at places) r.rows; count = r.count }) rows all
     (record { names = ap (names_at places) moved.names; moved = IsPermutation-map (values_at places) before.rows r.rows moved.moved }) is
-selects_move (filtering e ∷ nodes) before r rows all moved is = absurd (cc)
-selects_move (aggregating aggregates ∷ nodes) before r rows all moved is = absurd (cc)
-selects_move (grouping places aggregates ∷ nodes) before r rows all moved is = absurd (cc)
-selects_move (sorting items ∷ nodes) before r rows all moved is = absurd (cc)
-selects_move (choosing items most ∷ nodes) before r rows all moved is = absurd (cc)
-selects_move (slicing s ∷ nodes) before r rows all moved is = absurd (cc)
+selects_move (node ∷ nodes) before r rows all moved is = absurd (cc)
 
 last_moves : RowsAreInOrder → (node : NodeOf) (nodes : List NodeOf) (r rows : RowsOf) → only_select nodes ≡ true → nodes_result (node ∷ nodes) r ≡ Some rows
     → (before : RowsOf) × (nodes_result (unless_order node ++ nodes) r ≡ Some before) × AreReordered before rows
-last_moves law (filtering e) nodes r rows all is = itself _ rows is
-last_moves law (aggregating aggregates) nodes r rows all is = itself _ rows is
-last_moves law (grouping places aggregates) nodes r rows all is = itself _ rows is
 last_moves law (sorting items) nodes r rows all is =
-    let step = some_step (nodes_result nodes) (node_result (sorting items) r) rows is in
+    let step = some_of (nodes_result nodes) (node_result (sorting items) r) rows is in
     selects_move nodes r step.0 rows all (one_order law items r step.0 step.1) step.2
-last_moves law (choosing items most) nodes r rows all is = itself _ rows is
-last_moves law (slicing s) nodes r rows all is = itself _ rows is
-last_moves law (projecting places) nodes r rows all is = itself _ rows is
+last_moves law node nodes r rows all is = itself _ rows is
 
 pub nodes_move : RowsAreInOrder → (nodes : List NodeOf) (r rows : RowsOf) → nodes_result nodes r ≡ Some rows
     → (before : RowsOf) × (nodes_result (before_order nodes) r ≡ Some before) × AreReordered before rows
@@ -155,7 +126,7 @@ nodes_move law [] r rows is = itself _ rows is
 nodes_move law (node ∷ nodes) r rows is = elim (cases_Bool (only_select nodes)) [
   | inl e ↦ rw e (last_moves law node nodes r rows e is)
   | inr e ↦
-      (let step = some_step (nodes_result nodes) (node_result node r) rows is in
+      (let step = some_of (nodes_result nodes) (node_result node r) rows is in
       let rest = nodes_move law nodes step.0 rows step.2 in
-      rw e (rest.0, ap (option_and_then (nodes_result (before_order nodes))) step.1 ∙ rest.1, rest.2))
+      rw (e, step.1) rest)
 ]

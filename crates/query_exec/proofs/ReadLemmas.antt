@@ -1,46 +1,38 @@
 -- What a run has that was handed the first of the blocks that are needed.
-use Rattle.std.proofs.Common.{◌≡◌, ℕ, ◌+◌, Option, Some, None, List, [], ◌++◌, map, drop, take, sym, ap, ◌∙◌, subst, arith, append-nil}
-use Rattle.std.specs.Prelude.{count_by, option_and_then, option_map, slice_get}
-use Rattle.std.proofs.lemmas.List.{get_or_append_left, length-append, take-append-drop}
+use Rattle.std.proofs.Common.{◌≡◌, ℕ, ◌+◌, Option, Some, None, List, [], ◌++◌, map, drop, take, refl, sym, ap, ◌∙◌, subst, arith, append-nil}
+use Rattle.std.specs.Prelude.{option_and_then, option_map, slice_get}
+use Rattle.std.proofs.lemmas.List.{drop-drop, get_or_append_left, length-append, take-append-drop}
 use Rattle.std.proofs.lemmas.List.Concat.{flat_map-append}
 use Rattle.block_summary.specs.Blocks.{block_at}
 use Rattle.cell_types.specs.Value.{CellValue}
 use Rattle.csvw_meta.specs.Schema.{SchemaOf}
-use Rattle.odata_query.specs.Query.{optional_numbers}
-use Rattle.odata_types.specs.Input.{IsTableRow}
-use Rattle.typed_trees.specs.TypedTree.{boxed_truth}
 use Rattle.table_store.specs.Block.{block_of}
 use Rattle.table_store.specs.Table.{TableOf}
 use Rattle.query_plan.specs.Fitting.{NodesFit}
 use Rattle.query_meaning.specs.Fitting.{AreTableRows}
-use Rattle.query_meaning.specs.Filter.{passes_each}
 use Rattle.query_meaning.specs.Meaning.{ResultOf}
 use Rattle.query_plan.specs.Laws.{NodesInTurn, ScansReadTableRows}
-use Rattle.query_plan.specs.Plan.{PlanOf, leading, needed, node_view, nodes_result, select_nodes, table_result}
+use Rattle.query_plan.specs.Plan.{PlanOf, leading, needed, node_view, nodes_result, table_result}
 use Rattle.query_plan.specs.Scan.{rows_of_blocks, up_to}
 use Rattle.block_filter.specs.Conditions.{rows_joined, passing_all, ConditionsInTurn}
 use Rattle.query_exec.specs.declared.run.Run.{Run}
 use Rattle.query_exec.specs.Answer.{plan_answer}
-use Rattle.query_exec.specs.Conditions.{condition_nodes}
 use Rattle.query_exec.specs.Steps.{without_count}
 use Rattle.result_rows.specs.Kept.{kept_names}
 use Rattle.result_rows.specs.Selected.{selected_rows}
 use Rattle.query_exec.specs.Run.{conditions_of, handed_rows, next_block, passed_answer, passed_rows, places_of, steps_of, wanted_block, HasPassed, HasTakenBlocks, HasTakenIn, IsReady}
-use Rattle.query_exec.specs.Sink.{room_behind, sink_kept, sink_nodes}
-use Rattle.query_exec.proofs.NeededLemmas.{all_rows, drop_one, first_left, more_rows, needed_behind, wanted_is_first}
+use Rattle.query_exec.specs.Sink.{sink_kept, sink_nodes}
+use Rattle.query_exec.proofs.NeededLemmas.{all_rows, first_left, more_rows, needed_behind, wanted_is_first}
 use Rattle.result_rows.proofs.KeptLemmas.{as_many, still_kept}
 use Rattle.query_exec.proofs.ConditionLemmas.{parts_fit, parts_give, selected_joined}
 
 -- ---- the blocks that were handed in
 
 front_rows : (schema : SchemaOf) (front back : List (List CellValue)) → AreTableRows schema (front ++ back) → AreTableRows schema front
-front_rows schema front back are =
-    let long = length-append front back in
-    let few = are.count in
-    record {
-      each = λ k d h. subst (IsTableRow schema.columns) (get_or_append_left front back d k h) (are.each k d (omega (arith, h, long)));
-      count = omega (arith, few, long);
-    }
+front_rows schema front back are = record {
+  each = λ k d h. rw (← (get_or_append_left front back d k h)) (are.each k d (omega (arith, length-append front back)));
+  count = omega (arith, length-append front back, are.count);
+}
 
 -- the rows of all blocks that are needed
 abbrev pub read_rows : PlanOf → TableOf → List (List CellValue)
@@ -81,50 +73,35 @@ one_block_more law run plan table handed number next =
 pub block_read : ConditionsInTurn → (old new : Run) (plan : PlanOf) (table : TableOf) (handed number : ℕ) → HasTakenBlocks old plan table handed
     → next_block plan table handed ≡ Some number → HasTakenIn old new (block_of table number).rows → HasTakenBlocks new plan table (handed + 1)
 block_read law old new plan table handed number has next taken =
-    let rows = table.rows in
-    let es_are : conditions_of old ≡ conditions_of new = ap (λ (cs : _). map boxed_truth cs.items) (sym taken.conditions) in
-    let picked_are : places_of old ≡ places_of new = ap optional_numbers (sym taken.columns.places) in
     let front = handed_rows plan table handed in
+    let first : slice_get (up_to old.room (conditions_of old) table.rows old.left.items) 0 ≡ Some number = rw has.left_are (first_left (needed plan table.rows) handed ∙ next) in
     let whole = handed_rows plan table (handed + 1) in
-    let first : slice_get (up_to old.room (conditions_of old) rows old.left.items) 0 ≡ Some number =
-    ap (λ numbers. slice_get numbers 0) has.left_are ∙ first_left (needed plan rows) handed ∙ next in
-    let passed : HasPassed new (passed_rows old whole) =
-    subst (HasPassed new) (one_block_more law old plan table handed number next) (taken.passed (passed_rows old front) has.passed) in
+    let same : passed_rows old whole ≡ passed_rows new whole = rw (taken.conditions, taken.columns.places) refl in
     record {
-      plan_is =
-          ap (λ es. condition_nodes es ++ select_nodes (places_of new) ++ steps_of new) (sym es_are)
-          ∙ ap (λ picked. condition_nodes (conditions_of old) ++ select_nodes picked ++ steps_of new) (sym picked_are)
-          ∙ ap (λ steps. condition_nodes (conditions_of old) ++ select_nodes (places_of old) ++ steps) taken.steps ∙ has.plan_is;
-      conditions_are = has.conditions_are ∙ es_are;
+      plan_is = rw (taken.conditions, taken.columns.places, taken.steps) has.plan_is;
+      conditions_are = rw taken.conditions has.conditions_are;
       fits = has.fits;
       are_rows = has.are_rows;
       reads = taken.stage ∙ has.reads;
       left_are =
-          ap (λ es. up_to new.room es rows new.left.items) (sym es_are)
-          ∙ ap (λ room. up_to room (conditions_of old) rows new.left.items) taken.room_is
-          ∙ ap (up_to (room_behind old.room (count_by (passes_each (conditions_of old)) (block_of table number).rows)) (conditions_of old) rows) taken.left_are
-          ∙ needed_behind old.room (conditions_of old) rows old.left.items number first
-          ∙ ap (drop 1) has.left_are ∙ drop_one (needed plan rows) handed;
+          rw (taken.conditions, taken.room_is, taken.left_are)
+          (needed_behind old.room (conditions_of old) table.rows old.left.items number first ∙ ap (drop 1) has.left_are ∙ drop-drop 1 handed (needed plan table.rows));
       columns = still_kept (sink_kept old.sink) (sink_kept new.sink) table.schema taken.columns has.columns;
-      passed =
-          subst (λ picked. HasPassed new (option_map (selected_rows picked) (passing_all (conditions_of new) whole))) picked_are
-          (subst (λ es. HasPassed new (option_map (selected_rows (places_of old)) (passing_all es whole))) es_are passed);
+      passed = subst (HasPassed new) (one_block_more law old plan table handed number next ∙ same) (taken.passed (passed_rows old front) has.passed);
     }
 
 -- ---- where no block is needed
 
 pub whole_read : (run : Run) (plan : PlanOf) (table : TableOf) (blocks : ℕ) → HasTakenBlocks run plan table blocks → next_block plan table blocks ≡ None
     → HasPassed run (passed_rows run (read_rows plan table))
-whole_read run plan table blocks has beyond = subst (λ rows. HasPassed run (passed_rows run rows)) (all_rows plan table blocks beyond) has.passed
+whole_read run plan table blocks has beyond = rw (all_rows plan table blocks beyond) at has.passed
 
 -- what passes of rows of the table may go through the steps
 pub passed_fit : NodesInTurn → (run : Run) (plan : PlanOf) (table : TableOf) (blocks : ℕ) (all rows : List (List CellValue)) → HasTakenBlocks run plan table blocks
     → AreTableRows table.schema all → passed_rows run all ≡ Some rows → NodesFit (steps_of run) (without_count (kept_names (sink_kept run.sink)) rows)
 passed_fit law run plan table blocks all rows has are is =
-    let es = conditions_of run in
-    let r = table_result table.schema all in
-    let fit : NodesFit (condition_nodes es ++ select_nodes (places_of run) ++ steps_of run) r = subst (λ ns. NodesFit ns r) (sym has.plan_is) (has.fits all are) in
-    subst (λ names. NodesFit (steps_of run) (without_count names rows)) (sym has.columns.names_are) (parts_fit law es (places_of run) (steps_of run) r all rows fit is)
+    rw has.columns.names_are
+    (parts_fit law (conditions_of run) (places_of run) (steps_of run) (table_result table.schema all) all rows (rw has.plan_is (has.fits all are)) is)
 
 pub is_ready : NodesInTurn → ScansReadTableRows → (run : Run) (plan : PlanOf) (table : TableOf) (blocks : ℕ) → HasTakenBlocks run plan table blocks → wanted_block run ≡ None → IsReady run
 is_ready law scans run plan table blocks has beyond = record {
@@ -136,7 +113,7 @@ is_ready law scans run plan table blocks has beyond = record {
 
 -- where no steps are left, the sink does the only one
 pub no_steps : (run : Run) → map node_view run.steps.items ≡ [] → steps_of run ≡ sink_nodes run.sink
-no_steps run none = ap (λ ns. sink_nodes run.sink ++ ns) none ∙ append-nil (sink_nodes run.sink)
+no_steps run none = rw none (append-nil (sink_nodes run.sink))
 
 -- what the run gives then is the answer of the plan
 pub answer_is : (run : Run) (plan : PlanOf) (table : TableOf) (blocks : ℕ) → HasTakenBlocks run plan table blocks

@@ -1,6 +1,6 @@
 -- What the calls of a run give after the blocks that were handed in.
 use Rattle.std.proofs.Common.{◌≡◌, ◌⊎◌, inl, inr, ℕ, ◌+◌, ◌<◌, true, false, Option, Some, None, List, ◌++◌, length, drop, map, refl, sym, ap, ◌∙◌, subst, arith}
-use Rattle.std.specs.Prelude.{IsErrAnd, Result, Ok, Err, count_by, is_some, max, option_and_then, option_map}
+use Rattle.std.specs.Prelude.{IsErrAnd, Result, Ok, Err, count_by, is_some, max, option_map}
 use Rattle.std.proofs.Math.Nat.{le-max_right, max-eq_left, max-eq_right}
 use Rattle.std.proofs.lemmas.Bool.{cases_lt}
 use Rattle.std.proofs.lemmas.Option.{slice_get_within}
@@ -11,7 +11,7 @@ use Rattle.table_store.specs.Table.{TableOf}
 use Rattle.row_columns.specs.Picked.{numbered}
 use Rattle.block_filter.specs.declared.block.Passed.{Passed}
 use Rattle.block_filter.specs.Conditions.{passing_all, rows_joined, ConditionsInTurn}
-use Rattle.block_filter.specs.Passing.{unless_faulted, ArePassing}
+use Rattle.block_filter.specs.Passing.{ArePassing}
 use Rattle.query_meaning.specs.Filter.{passes_each}
 use Rattle.query_meaning.specs.Meaning.{first_rows}
 use Rattle.query_plan.specs.Fitting.{NodesFit}
@@ -28,8 +28,9 @@ use Rattle.row_eval.specs.declared.fault.EvalFault.{EvalFault}
 use Rattle.row_eval.specs.declared.fault.EvalFault.TheVariants as eval
 use Rattle.result_rows.specs.Kept.{kept_names, AreKeptOf}
 use Rattle.result_rows.specs.Selected.{selected_rows}
-use Rattle.query_exec.specs.Run.{conditions_of, handed_block, handed_rows, next_block, passed_answer, passed_rows, places_of, run_length, steps_of, wanted_block, HasPassed, HasTakenBlocks, HasTakenIn, IsRunAnswer, IsReady, MayTakeIn, RunGoesOn, StandsFor, StepsTo}
+use Rattle.query_exec.specs.Run.{conditions_of, handed_block, handed_rows, next_block, passed_answer, passed_rows, places_of, run_length, wanted_block, HasPassed, HasTakenBlocks, HasTakenIn, IsRunAnswer, IsReady, MayTakeIn, RunGoesOn, StandsFor, StepsTo}
 use Rattle.query_exec.specs.Sink.{room_behind, sink_kept, sink_nodes, spare_of, AreFound, SinkGives, HasPushed, MayFinish, MayPush, PushesOn}
+use Rattle.query_exec.proofs.ConditionLemmas.{mapped_of, none_mapped}
 use Rattle.query_exec.proofs.CountLemmas.{few_pass, passed_count}
 use Rattle.query_exec.proofs.DayLemmas.{table_days}
 use Rattle.query_exec.proofs.FitLemmas.{block_fits}
@@ -91,7 +92,7 @@ module _ (run : Run) (plan : PlanOf) (table : TableOf) (handed : ℕ) (stands : 
   after_none next result is goes =
       let beyond = is_no_block plan table handed is in
       answers run next plan table handed handed result stands.read
-      (λ number h. let none : None ≡ Some number = sym beyond ∙ h in absurd (cc)) (λ h. last_none plan table handed stands.goes_on beyond) goes
+      (λ number h. absurd (cc (beyond, h))) (λ h. last_none plan table handed stands.goes_on beyond) goes
 
   pub ready_behind_none : NodesInTurn → ScansReadTableRows → wanted_block run ≡ None → IsReady run
   ready_behind_none turn scans beyond = is_ready turn scans run plan table handed stands.read beyond
@@ -132,10 +133,7 @@ module _ (run : Run) (plan : PlanOf) (table : TableOf) (handed : ℕ) (stands : 
           days = table_days inputs block rows_are;
           passed = passed_rows run (handed_rows plan table handed);
           has = has.passed;
-          few = λ rows e.
-              let less = few_pass (conditions_of run) (places_of run) whole rows (passed rows e) in
-              let count = are.count in
-              omega (arith, less, count);
+          few = λ rows e. omega (arith, few_pass (conditions_of run) (places_of run) whole rows (passed rows e), are.count);
           fits = λ rows e.
               turn.below_fit (sink_nodes run.sink) (map node_view run.steps.items) (without_count (kept_names (sink_kept run.sink)) rows)
               (passed_fit turn run plan table handed whole rows has are (passed rows e));
@@ -143,16 +141,11 @@ module _ (run : Run) (plan : PlanOf) (table : TableOf) (handed : ℕ) (stands : 
 
 -- ---- a block is taken in
 
-some_first : (most : Option ℕ) (passed : Option (List (List CellValue))) (kept : List (List CellValue)) → option_map (first_rows most) passed ≡ Some kept
-    → (all : List (List CellValue)) × (passed ≡ Some all) × (first_rows most all ≡ kept)
-some_first most None kept is = absurd (cc)
-some_first most (Some all) kept is = (all, refl, cc)
-
 -- what was found, unless a condition divided by zero
 found_of : (es : List TruthExprOf) (most : Option ℕ) (rows : List (List CellValue)) (found : Passed) → ArePassing es most rows found → found.faulted ≡ false
     → (passing : List (List CellValue)) × (passing_all es rows ≡ Some passing) × AreFound most rows found passing
 found_of es most rows found are works =
-    let some = some_first most (passing_all es rows) (numbered found.rows rows) (are.passed ∙ ap (λ b. unless_faulted b (numbered found.rows rows)) works) in (
+    let some = mapped_of (first_rows most) (passing_all es rows) (numbered found.rows rows) (rw works at are.passed) in (
       some.0,
       some.1,
       record { within = are.within; first = sym some.2; count = are.count ∙ sym (passed_count es rows some.0 some.1) },
@@ -161,7 +154,7 @@ found_of es most rows found are works =
 -- rows passed before where no condition divided by zero
 pub some_passed : (run : Run) (passed : Option (List (List CellValue))) → HasPassed run passed → run.faulted ≡ false
     → (rows : List (List CellValue)) × (passed ≡ Some rows) × HasPushed run.sink rows
-some_passed run None has works = let wrong : false ≡ true = sym works ∙ has.faulted in absurd (cc)
+some_passed run None has works = absurd (cc (works, has.faulted))
 some_passed run (Some rows) has works = (rows, refl, has.pushed)
 
 pub may_push : (run : Run) (block : TableOf) (found : Passed) → MayTakeIn run block → ArePassing (conditions_of run) (spare_of run.sink) block.rows found
@@ -185,16 +178,12 @@ may_push run block found may are works still =
 
 none_passed : (run : Run) (passed : Option (List (List CellValue))) → HasPassed run passed → run.faulted ≡ true → passed ≡ None
 none_passed run None has faults = refl
-none_passed run (Some rows) has faults = let wrong : true ≡ false = sym faults ∙ has.faulted in absurd (cc)
+none_passed run (Some rows) has faults = absurd (cc (faults, has.faulted))
 
 -- a condition divided by zero on rows before
 pub fault_before : (old : Run) (rows : List (List CellValue)) → old.faulted ≡ true → (before : Option (List (List CellValue))) → HasPassed old before
     → rows_joined before (passed_rows old rows) ≡ None
 fault_before old rows faults before has = ap (λ passed. rows_joined passed (passed_rows old rows)) (none_passed old before has faults)
-
-none_first : (most : Option ℕ) (passed : Option (List (List CellValue))) → option_map (first_rows most) passed ≡ None → passed ≡ None
-none_first most None is = refl
-none_first most (Some all) is = absurd (cc)
 
 joined_none : (passed : Option (List (List CellValue))) → rows_joined passed None ≡ None
 joined_none None = refl
@@ -204,24 +193,19 @@ joined_none (Some rows) = refl
 pub fault_found : (old : Run) (most : Option ℕ) (rows : List (List CellValue)) (found : Passed) → ArePassing (conditions_of old) most rows found → found.faulted ≡ true
     → (before : Option (List (List CellValue))) → HasPassed old before → rows_joined before (passed_rows old rows) ≡ None
 fault_found old most rows found are faults before has =
-    let none = none_first most (passing_all (conditions_of old) rows) (are.passed ∙ ap (λ f. unless_faulted f (numbered found.rows rows)) faults) in
-    ap (λ passed. rows_joined before (option_map (selected_rows (places_of old)) passed)) none ∙ joined_none before
+    let none = none_mapped (first_rows most) (passing_all (conditions_of old) rows) (rw faults at are.passed) in rw none (joined_none before)
 
 pub faulted_taken : (old new : Run) (rows : List (List CellValue)) → new ≡ record old { left = new.left; room = new.room; faulted = new.faulted } → new.faulted ≡ true → new.left.items ≡ drop 1 old.left.items
     → new.room ≡ room_behind old.room (count_by (passes_each (conditions_of old)) rows)
     → ((before : Option (List (List CellValue))) → HasPassed old before → rows_joined before (passed_rows old rows) ≡ None) → HasTakenIn old new rows
 faulted_taken old new rows is faults left room none = record {
-  conditions = ap (λ (r : Run). r.conditions) is;
-  stage = ap (λ (r : Run). r.stage) is;
-  steps = ap steps_of is;
-  columns = record {
-    places = ap (λ (r : Run). (sink_kept r.sink).places) is;
-    names = ap (λ (r : Run). (sink_kept r.sink).names) is;
-    kinds = ap (λ (r : Run). (sink_kept r.sink).columns.kinds) is;
-  };
+  conditions = rw is refl;
+  stage = rw is refl;
+  steps = rw is refl;
+  columns = rw is (record { places = refl; names = refl; kinds = refl });
   left_are = left;
   room_is = room;
-  passed = λ before has. subst (HasPassed new) (sym (none before has)) (record { faulted = faults; pushed = tt });
+  passed = λ before has. rw (none before has) (record { faulted = faults; pushed = tt });
 }
 
 -- rows that pass no more, once a condition divided by zero
@@ -240,18 +224,15 @@ pub pushed_taken : (old new : Run) (rows : List (List CellValue)) (found : Passe
 pushed_taken old new rows found are works still is left room pushes =
     let more = found_of (conditions_of old) (spare_of old.sink) rows found are still in
     record {
-      conditions = ap (λ (r : Run). r.conditions) is;
-      stage = ap (λ (r : Run). r.stage) is;
-      steps = ap (λ (r : Run). sink_nodes new.sink ++ map node_view r.steps.items) is ∙ ap (λ ns. ns ++ map node_view old.steps.items) pushes.nodes;
+      conditions = rw is refl;
+      stage = rw is refl;
+      steps = rw (ap (λ (r : Run). r.steps) is, pushes.nodes) refl;
       columns = pushes.columns;
       left_are = left;
       room_is = room ∙ ap (room_behind old.room) are.count;
       passed = λ before has.
           let some = some_passed old before has works in
-          let joined : rows_joined before (passed_rows old rows) ≡ Some (some.0 ++ selected_rows (places_of old) more.0) =
-          ap (λ passed. rows_joined passed (passed_rows old rows)) some.1
-          ∙ ap (λ passed. rows_joined (Some some.0) (option_map (selected_rows (places_of old)) passed)) more.1 in
-          subst (HasPassed new) (sym joined) (record { faulted = ap (λ (r : Run). r.faulted) is ∙ works; pushed = pushes.pushed some.0 more.0 more.2 some.2 });
+          rw (some.1, more.1) (record { faulted = ap (λ (r : Run). r.faulted) is ∙ works; pushed = pushes.pushed some.0 more.0 more.2 some.2 });
     }
 
 -- ---- the end
@@ -266,6 +247,13 @@ may_finish run ready works turn =
       fits = turn.below_fit (sink_nodes run.sink) (map node_view run.steps.items) (without_count (kept_names (sink_kept run.sink)) some.0) (ready.fits some.0 some.1);
     }
 
+-- a fault at the end is one of the run
+pub fault_on : (run new : Run) (fault : EvalFault) (result : Result (Option OrderedOf) ExecFault) → wanted_block run ≡ None → (fault ≡ eval.DivisionByZero → IsRunAnswer run None)
+    → IsErrAnd result (λ made. made ≡ exec_fault fault) → RunGoesOn run new result
+fault_on run new fault (Ok made) beyond none is = absurd is
+fault_on run new eval.DivisionByZero (Err made) beyond none is = rw is (beyond, none refl)
+fault_on run new eval.NoMemory (Err made) beyond none is = rw is tt
+
 module _ (run : Run) (ready : IsReady run) (works : run.faulted ≡ false) (turn : NodesInTurn) (sunk : RowsOf) (sinks : SinkGives run.sink sunk) where
   pub steps_fit : NodesFit (map node_view run.steps.items) sunk
   steps_fit =
@@ -278,17 +266,10 @@ module _ (run : Run) (ready : IsReady run) (works : run.faulted ≡ false) (turn
   answer_made answer is = λ passed has.
       let some = some_passed run passed has works in
       let r = without_count (kept_names (sink_kept run.sink)) some.0 in
-      ap (passed_answer run) some.1 ∙ turn.turn (sink_nodes run.sink) (map node_view run.steps.items) r
-      ∙ ap (option_and_then (nodes_result (map node_view run.steps.items))) (sinks.gives some.0 some.2) ∙ is
-
-  fault_answer : (new : Run) (fault : EvalFault) → wanted_block run ≡ None → GivesInOrder (nodes_result (map node_view run.steps.items) sunk) (Err fault)
-      → RunGoesOn run new (Err (exec_fault fault))
-  fault_answer new eval.DivisionByZero beyond gives = (beyond, answer_made None gives)
-  fault_answer new eval.NoMemory beyond gives = tt
+      ap (passed_answer run) some.1 ∙ turn.turn (sink_nodes run.sink) (map node_view run.steps.items) r ∙ rw (sinks.gives some.0 some.2) is
 
   -- a fault of the steps is one of the run
   pub fault_goes_on : (new : Run) (fault : EvalFault) (result : Result (Option OrderedOf) ExecFault) → wanted_block run ≡ None
       → GivesInOrder (nodes_result (map node_view run.steps.items) sunk) (Err fault) → IsErrAnd result (λ made. made ≡ exec_fault fault)
       → RunGoesOn run new result
-  fault_goes_on new fault (Ok made) beyond gives is = absurd is
-  fault_goes_on new fault (Err made) beyond gives is = subst (λ f. RunGoesOn run new (Err f)) (sym is) (fault_answer new fault beyond gives)
+  fault_goes_on new fault result beyond gives is = fault_on run new fault result beyond (λ e. answer_made None (rw e at gives)) is

@@ -1,7 +1,6 @@
 -- A sink of rows in order.
-use Rattle.std.proofs.Common.{◌≡◌, ◌<◌, ◌++◌, ◌||◌, ℕ, Bool, true, false, cond, List, [], ◌∷◌, Option, Some, None, append-nil, drop, length, map, take, refl, string_bytes, subst, sym, ap, ◌∙◌}
-use Rattle.std.specs.Prelude.{IfSome, is_some, option_and_then, option_map}
-use Rattle.std.specs.List.{All}
+use Rattle.std.proofs.Common.{◌≡◌, ◌++◌, ◌||◌, ℕ, true, false, List, [], ◌∷◌, Option, Some, None, append-nil, drop, length, refl, sym, ap, ◌∙◌}
+use Rattle.std.specs.Prelude.{IfSome, is_some, option_map}
 use Rattle.std.specs.Option.{unwrap_or}
 use Rattle.std.proofs.lemmas.List.{length-map}
 use Rattle.cell_types.specs.Value.{CellValue}
@@ -9,7 +8,6 @@ use Rattle.csvw_meta.specs.Schema.{SchemaOf}
 use Rattle.odata_query.specs.Query.{optional_numbers}
 use Rattle.table_store.specs.Table.{TableOf}
 use Rattle.result_rows.specs.Rows.{OrderedOf, RowsOf}
-use Rattle.row_columns.specs.Kinds.{kinds_of}
 use Rattle.row_columns.specs.Picked.{numbered}
 use Rattle.query_meaning.specs.Meaning.{first_rows, selected_names, table_names}
 use Rattle.query_meaning.specs.Order.{Item, ordered}
@@ -23,7 +21,7 @@ use Rattle.sort_rows.specs.declared.runs.SortedRuns.{SortedRuns}
 use Rattle.block_filter.specs.declared.block.Passed.{Passed}
 use Rattle.result_rows.specs.declared.kept.Kept.{Kept}
 use Rattle.result_rows.specs.Kept.{kept_names, kept_places, shown_of, shown_places, AreKeptOf, AreShownOf, HasKept, HasSameColumns}
-use Rattle.result_rows.specs.Selected.{selected_kinds, selected_rows}
+use Rattle.result_rows.specs.Selected.{selected_rows}
 use Rattle.result_rows.proofs.KeptLemmas.{kinds_long}
 use Rattle.result_rows.proofs.SelectedLemmas.{as_many_rows, selected_drop, selected_first}
 use Rattle.query_exec.specs.declared.sink.Sink.TheVariants as sink
@@ -32,7 +30,7 @@ use Rattle.query_exec.specs.Answer.{before_order}
 use Rattle.query_exec.specs.Sink.{first_result, shown_nodes, sorted_items, sorted_nodes, HasPushed, IsShown, KeepsShown, MayPush, PushesOn, SinkEnds}
 use Rattle.query_exec.specs.Items.{ItemsFit}
 use Rattle.query_exec.specs.Steps.{without_count}
-use Rattle.query_exec.proofs.ConditionLemmas.{selected_append}
+use Rattle.query_exec.proofs.ConditionLemmas.{mapped_of, selected_append}
 
 -- the piece that all rows are
 abbrev pub all_rows : Slice
@@ -57,25 +55,19 @@ first_fits items (Some most) nodes names rows fit = fit.0.numbers
 pub kept_fit : (old : SortedSink) (mid : Kept) (block : TableOf) (found : Passed) → MayPush (sink.Sorted old) block found
     → HasKept old.kept mid (selected_rows (kept_places old.kept) (numbered found.rows block.rows)) → ItemsFit (sorted_items old) mid.columns.rows
 kept_fit old mid block found may kept =
-    let picked = kept_places old.kept in
-    let is : mid.columns.rows ≡ may.before ++ selected_rows picked may.passing =
-    kept.rows ∙ ap (λ front. front ++ selected_rows picked (numbered found.rows block.rows)) may.pushed.rows_are
-    ∙ ap (λ rs. may.before ++ selected_rows picked rs) may.are_found.first in
-    subst (ItemsFit (sorted_items old)) (sym is)
-    (first_fits (sorted_items old) old.most _ (kept_names old.kept) (may.before ++ selected_rows picked may.passing) may.fits)
+    rw (kept.rows, may.pushed.rows_are, may.are_found.first)
+    (first_fits (sorted_items old) old.most _ (kept_names old.kept) (may.before ++ selected_rows (kept_places old.kept) may.passing) may.fits)
 
 -- ---- the columns that are asked for
 
 -- they are columns of the table
 shown_of_table : (kept shown : Kept) (rows : List (List CellValue)) (schema : SchemaOf) → AreKeptOf kept schema → IsShown kept rows shown → AreKeptOf shown schema
 shown_of_table kept shown rows schema are is =
-    let names : kept_names kept ≡ table_names schema = are.names_are ∙ ap (λ picked. selected_names picked (table_names schema)) is.all in
+    let names : kept_names kept ≡ table_names schema = rw is.all at are.names_are in
     record {
-      within =
-          subst (λ n. IfSome (kept_places shown) (All (λ place. place < n)))
-          (ap length names ∙ length-map schema.columns (λ column. column.name)) is.within;
-      names_are = is.names_are ∙ ap (selected_names (kept_places shown)) names;
-      kinds_are = is.kinds_are ∙ ap (selected_kinds (kept_places shown)) (are.kinds_are ∙ ap (λ picked. selected_kinds picked (kinds_of schema.columns)) is.all);
+      within = rw (names, length-map schema.columns (λ column. column.name)) at is.within;
+      names_are = rw names at is.names_are;
+      kinds_are = rw (rw is.all at are.kinds_are) at is.kinds_are;
     }
 
 pub all_of_table : (kept : Kept) (shown : Option Kept) (rows : List (List CellValue)) (schema : SchemaOf) → AreKeptOf kept schema → IfSome shown (IsShown kept rows)
@@ -94,46 +86,31 @@ pub shown_are : (kept : Kept) (shown : Option Kept) (rows : List (List CellValue
 shown_are kept None rows wide has is = tt
 shown_are kept (Some shown) rows wide has is = record {
   width = shown_wide kept shown rows is wide;
-  rows_are = is.rows_are ∙ ap (selected_rows (kept_places shown)) (sym has);
+  rows_are = rw has is.rows_are;
 }
 
 -- rows of a block are kept in them too
 still_shown : (old mid shown new : Kept) (before rows passing : List (List CellValue)) → IsShown old before shown → HasSameColumns old mid
     → HasKept shown new (selected_rows (kept_places shown) rows) → rows ≡ passing → IsShown mid (before ++ selected_rows (kept_places old) passing) new
 still_shown old mid shown new before rows passing is same takes found =
-    let names : kept_names mid ≡ kept_names old = ap (λ (ns : _). map string_bytes ns.items) same.names in
-    let places : kept_places new ≡ kept_places shown = ap optional_numbers takes.same.places in
-    let more : passing ≡ selected_rows (kept_places old) passing = sym (ap (λ picked. selected_rows picked passing) is.all) in
     record {
-      all = ap optional_numbers same.places ∙ is.all;
-      within =
-          subst (λ picked. IfSome picked (All (λ place. place < length (kept_names mid)))) (sym places)
-          (subst (λ ns. IfSome (kept_places shown) (All (λ place. place < length ns))) (sym names) is.within);
-      names_are =
-          ap (λ (ns : _). map string_bytes ns.items) takes.same.names ∙ is.names_are ∙ ap (selected_names (kept_places shown)) (sym names)
-          ∙ ap (λ picked. selected_names picked (kept_names mid)) (sym places);
-      kinds_are =
-          takes.same.kinds ∙ is.kinds_are ∙ ap (selected_kinds (kept_places shown)) (sym same.kinds)
-          ∙ ap (λ picked. selected_kinds picked mid.columns.kinds) (sym places);
-      rows_are =
-          takes.rows ∙ ap (λ front. front ++ selected_rows (kept_places shown) rows) is.rows_are
-          ∙ sym (selected_append (kept_places shown) before rows)
-          ∙ ap (λ rs. selected_rows (kept_places shown) (before ++ rs)) (found ∙ more)
-          ∙ ap (λ picked. selected_rows picked (before ++ selected_rows (kept_places old) passing)) (sym places);
+      all = rw same.places is.all;
+      within = rw (takes.same.places, same.names) is.within;
+      names_are = rw (takes.same.names, takes.same.places, same.names) is.names_are;
+      kinds_are = rw (takes.same.kinds, takes.same.places, same.kinds) is.kinds_are;
+      rows_are = rw (takes.rows, is.rows_are, takes.same.places, is.all, found) (sym (selected_append (kept_places shown) before passing));
     }
 
 all_shown : (old mid : Kept) (shown new : Option Kept) (before rows passing : List (List CellValue)) → IfSome shown (IsShown old before) → HasSameColumns old mid
     → KeepsShown shown new rows → rows ≡ passing → IfSome new (IsShown mid (before ++ selected_rows (kept_places old) passing))
 all_shown old mid None None before rows passing is same takes found = tt
-all_shown old mid None (Some new) before rows passing is same takes found = absurd takes
-all_shown old mid (Some shown) None before rows passing is same takes found = absurd takes
 all_shown old mid (Some shown) (Some new) before rows passing is same takes found = still_shown old mid shown new before rows passing is same takes found
+all_shown old mid shown new before rows passing is same takes found = absurd takes
 
 same_places : (shown new : Option Kept) (rows : List (List CellValue)) → KeepsShown shown new rows → shown_places new ≡ shown_places shown
 same_places None None rows takes = refl
-same_places None (Some new) rows takes = absurd takes
-same_places (Some shown) None rows takes = absurd takes
 same_places (Some shown) (Some new) rows takes = ap optional_numbers takes.same.places
+same_places shown new rows takes = absurd takes
 
 -- and then all are
 pub sorted_pushed : (old : SortedSink) (mid : Kept) (shown : Option Kept) (runs : SortedRuns) (rows : List (List CellValue)) (found : Passed)
@@ -141,12 +118,10 @@ pub sorted_pushed : (old : SortedSink) (mid : Kept) (shown : Option Kept) (runs 
     → HasInRuns (sorted_items old) runs mid.columns.rows
     → PushesOn (sink.Sorted old) (sink.Sorted (record old { kept = mid; shown = shown; runs = runs })) rows found
 sorted_pushed old mid shown runs rows found kept takes are = record {
-  nodes = ap (λ picked. sorted_nodes (sorted_items old) old.most old.slice ++ select_nodes picked) (same_places old.shown shown (numbered found.rows rows) takes);
+  nodes = rw (same_places old.shown shown (numbered found.rows rows) takes) refl;
   columns = kept.same;
   pushed = λ before passing found_are has. record {
-    rows_are =
-        kept.rows ∙ ap (λ front. front ++ selected_rows (kept_places old.kept) (numbered found.rows rows)) has.rows_are
-        ∙ ap (λ rs. before ++ selected_rows (kept_places old.kept) rs) found_are.first;
+    rows_are = rw (kept.rows, has.rows_are, found_are.first) refl;
     shown_is = all_shown old.kept mid old.shown shown before (numbered found.rows rows) passing has.shown_is kept.same takes found_are.first;
     runs_are = are;
   };
@@ -156,8 +131,7 @@ sorted_pushed old mid shown runs rows found kept takes are = record {
 
 -- an order alone
 pub whole_nodes : (s : SortedSink) → s.most ≡ None → s.slice ≡ None → sorted_nodes (sorted_items s) s.most s.slice ≡ sorting (sorted_items s) ∷ []
-whole_nodes s all whole =
-    ap (λ most. sorted_nodes (sorted_items s) most s.slice) all ∙ ap (λ (p : Option Slice). sorted_nodes (sorted_items s) None p) whole
+whole_nodes s all whole = rw (all, whole) refl
 
 -- rows of which some columns are asked for
 abbrev pub selected_result : Option (List ℕ) → RowsOf → RowsOf
@@ -166,14 +140,13 @@ selected_result picked r = record { names = selected_names picked r.names; rows 
 pub shown_is : (kept : Kept) (shown : Option Kept) (rows : List (List CellValue)) → kept.columns.rows ≡ rows → IfSome shown (IsShown kept rows)
     → shown_of (without_count (kept_names kept) kept.columns.rows) shown ≡ selected_result (shown_places shown) (without_count (kept_names kept) rows)
 shown_is kept None rows has is = ap (without_count (kept_names kept)) has
-shown_is kept (Some shown) rows has is =
-    ap (λ ns. without_count ns shown.columns.rows) is.names_are ∙ ap (without_count (selected_names (kept_places shown) (kept_names kept))) is.rows_are
+shown_is kept (Some shown) rows has is = rw (is.names_are, is.rows_are) refl
 
 -- steps and then a selection of columns
 then_selected : NodesInTurn → (picked : Option (List ℕ)) (nodes : List NodeOf) (r made : RowsOf) → nodes_result nodes r ≡ Some made
     → nodes_result (nodes ++ select_nodes picked) r ≡ Some (selected_result picked made)
-then_selected law None nodes r made is = ap (λ ns. nodes_result ns r) (append-nil nodes) ∙ is
-then_selected law (Some places) nodes r made is = law.turn nodes (projecting places ∷ []) r ∙ ap (option_and_then (nodes_result (projecting places ∷ []))) is
+then_selected law None nodes r made is = rw (append-nil nodes) is
+then_selected law (Some places) nodes r made is = law.turn nodes (projecting places ∷ []) r ∙ rw is refl
 
 -- the columns of a piece are a piece of the columns
 pub selected_piece : (picked : Option (List ℕ)) (most : Option ℕ) (slice : SliceOf) (names : List (List ℕ)) (all : List (List CellValue)) (made : RowsOf)
@@ -182,39 +155,23 @@ pub selected_piece : (picked : Option (List ℕ)) (most : Option ℕ) (slice : S
 selected_piece picked most slice names all made is =
     let r = first_result most (without_count names all) in
     let piece : RowsOf = record { names = names; rows = first_rows slice.top (drop slice.skip r.rows); count = counted slice r } in
-    let rows : selected_rows picked r.rows ≡ first_rows most (selected_rows picked all) = selected_first picked most all in
+    let rows = selected_first picked most all in
     let same : selected_result picked piece ≡ made =
-    ap (λ rs. record { names = selected_names picked names; rows = rs; count = counted slice r })
-    (selected_first picked slice.top (drop slice.skip r.rows) ∙ ap (first_rows slice.top) (selected_drop picked slice.skip r.rows ∙ ap (drop slice.skip) rows))
-    ∙ ap (λ n. record { names = selected_names picked names; rows = first_rows slice.top (drop slice.skip (first_rows most (selected_rows picked all))); count = cond slice.counts (Some n) None })
-    (sym (as_many_rows picked r.rows) ∙ ap length rows) ∙ (cc) in
+    rw (selected_first picked slice.top (drop slice.skip r.rows), selected_drop picked slice.skip r.rows, ← (as_many_rows picked r.rows), rows) (cc) in
     (piece, refl, same)
 
 -- the rows that are kept, in order
 rows_made : (names : List (List ℕ)) (rows : RowsOf) → rows.names ≡ names → rows.count ≡ None → without_count names rows.rows ≡ rows
-rows_made names rows is count =
-    ap (λ ns. record { names = ns; rows = rows.rows; count = None }) (sym is) ∙ ap (λ n. record { names = rows.names; rows = rows.rows; count = n }) (sym count)
+rows_made names rows is count = rw (← is, ← count) refl
 
 -- are a piece of them, or all
 nodes_make : (items : List Item) (most : Option ℕ) (slice : Option Slice) (names : List (List ℕ)) (rows all : List (List CellValue)) (made : RowsOf) → ordered items rows ≡ Some all
     → node_result (slicing (slice_view (unwrap_or slice all_rows))) (first_result most (without_count names all)) ≡ Some made
     → nodes_result (sorted_nodes items most slice) (without_count names rows) ≡ Some made
-nodes_make items None None names rows all made is piece =
-    ap (λ sorted. option_and_then (nodes_result []) (option_map (λ rs. without_count names rs) sorted)) is ∙ piece
-nodes_make items None (Some slice) names rows all made is piece =
-    ap (λ sorted. option_and_then (nodes_result (slicing (slice_view slice) ∷ [])) (option_map (λ rs. without_count names rs) sorted)) is ∙ piece
-nodes_make items (Some most) None names rows all made is piece =
-    ap (λ sorted. option_and_then (nodes_result []) (option_map (λ rs. without_count names rs) (option_map (take most) sorted))) is ∙ piece
-nodes_make items (Some most) (Some slice) names rows all made is piece =
-    ap (λ sorted. option_and_then (nodes_result (slicing (slice_view slice) ∷ [])) (option_map (λ rs. without_count names rs) (option_map (take most) sorted))) is ∙ piece
-
-pub or_true : (a : Bool) → (a || true) ≡ true
-or_true true = refl
-or_true false = refl
-
-pub none_is : {X : Type 0} (o : Option X) → is_some o ≡ false → o ≡ None
-none_is None e = refl
-none_is (Some x) e = absurd (cc)
+nodes_make items None None names rows all made is piece = rw is piece
+nodes_make items None (Some slice) names rows all made is piece = rw is piece
+nodes_make items (Some most) None names rows all made is piece = rw is piece
+nodes_make items (Some most) (Some slice) names rows all made is piece = rw is piece
 
 nodes_stay : (items : List Item) (most : Option ℕ) (slice : Option Slice) (picked : Option (List ℕ)) → (is_some most || is_some slice) ≡ true
     → before_order (sorted_nodes items most slice ++ select_nodes picked) ≡ sorted_nodes items most slice ++ select_nodes picked
@@ -225,11 +182,6 @@ nodes_stay items most (Some slice) None some = refl
 nodes_stay items most (Some slice) (Some places) some = refl
 
 -- the columns of rows in order
-some_ordered : (picked : Option (List ℕ)) (sorted : Option (List (List CellValue))) (all : List (List CellValue)) → option_map (selected_rows picked) sorted ≡ Some all
-    → (rows : List (List CellValue)) × (sorted ≡ Some rows) × (selected_rows picked rows ≡ all)
-some_ordered picked None all is = absurd (cc)
-some_ordered picked (Some rows) all is = (rows, refl, cc)
-
 selected_alone : (picked : Option (List ℕ)) (names : List (List ℕ)) (rows : List (List CellValue))
     → nodes_result (select_nodes picked) (without_count names rows) ≡ Some (selected_result picked (without_count names rows))
 selected_alone None names rows = refl
@@ -238,9 +190,8 @@ selected_alone (Some places) names rows = refl
 sorted_whole : (picked : Option (List ℕ)) (items : List Item) (names : List (List ℕ)) (rows all : List (List CellValue)) → option_map (selected_rows picked) (ordered items rows) ≡ Some all
     → nodes_result (sorting items ∷ select_nodes picked) (without_count names rows) ≡ Some (without_count (selected_names picked names) all)
 sorted_whole picked items names rows all is =
-    let some = some_ordered picked (ordered items rows) all is in
-    ap (λ sorted. option_and_then (nodes_result (select_nodes picked)) (option_map (λ rs. without_count names rs) sorted)) some.1
-    ∙ selected_alone picked names some.0 ∙ ap (λ rs. Some (without_count (selected_names picked names) rs)) some.2
+    let some = mapped_of (selected_rows picked) (ordered items rows) all is in
+    rw some.1 (selected_alone picked names some.0 ∙ ap (λ rs. Some (without_count (selected_names picked names) rs)) some.2)
 
 -- and as they stood
 unsorted : (picked : Option (List ℕ)) (items : List Item) (names : List (List ℕ)) (rows : List (List CellValue))
@@ -283,7 +234,7 @@ piece_ends law s all made some names count rows_are piece =
     let own = kept_names s.kept in
     let picked = shown_places s.shown in
     let slice = slice_view (unwrap_or s.slice all_rows) in
-    let in_order = some_ordered picked (ordered items s.kept.columns.rows) all.rows rows_are in
+    let in_order = mapped_of (selected_rows picked) (ordered items s.kept.columns.rows) all.rows rows_are in
     let makes : (rows : List (List CellValue)) → HasPushed (sink.Sorted s) rows → nodes_result (shown_nodes s) (without_count own rows) ≡ Some made =
     λ rows has.
     let from : without_count (selected_names picked own) (selected_rows picked in_order.0) ≡ all =

@@ -1,10 +1,11 @@
 -- The first rows of an order that never divides by zero.
-use Rattle.std.proofs.Common.{◌≡◌, ℕ, ◌+◌, ◌<◌, Bool, true, false, ◌||◌, ◌&&◌, cond, Option, Some, None, List, [], ◌∷◌, ◌++◌, append-nil, get_or, length, map, take, refl, sym, ap, ◌∙◌, subst, arith}
-use Rattle.std.specs.Prelude.{is_none, is_some, not, option_and_then, option_map}
+use Rattle.std.proofs.Common.{◌≡◌, ℕ, ◌<◌, true, false, cond, Option, Some, None, List, [], ◌∷◌, ◌++◌, append-nil, get_or, length, take, refl, sym, ap, ◌∙◌, arith}
+use Rattle.std.specs.Prelude.{is_some, not, option_map}
 use Rattle.std.specs.List.{All, list_any}
-use Rattle.std.proofs.lemmas.Bool.{and_parts}
-use Rattle.std.proofs.lemmas.List.{get_or-map, get_or-append-add, length-append, length-map}
-use Rattle.std.proofs.lemmas.List.Elements.{All-append}
+use Rattle.std.proofs.lemmas.Bool.{and_parts, not-true}
+use Rattle.std.proofs.lemmas.List.{get_or-map, length-map}
+use Rattle.std.proofs.lemmas.List.Elements.{All-append, All-drop}
+use Rattle.std.proofs.Math.Seq.{drop-append_seam}
 use Rattle.block_filter.specs.declared.block.Passed.{Passed}
 use Rattle.cell_types.specs.Value.{CellValue}
 use Rattle.cell_types.specs.declared.kind.NumberKind.TheVariants as numbers
@@ -13,13 +14,10 @@ use Rattle.typed_trees.specs.declared.tree.TruthExpr.{TruthExpr}
 use Rattle.typed_trees.specs.TypedTree.{TypedExprOf}
 use Rattle.row_eval.specs.Bounds.{NumbersFit}
 use Rattle.row_eval.specs.Laws.{FaultsAreForeseen}
-use Rattle.row_eval.specs.Outcome.{outcome}
 use Rattle.table_store.specs.Table.{TableOf}
 use Rattle.typed_trees.specs.CanFault.{can_fault}
-use Rattle.odata_query.specs.Query.{order_view}
 use Rattle.query_meaning.specs.Meaning.{ResultOf}
 use Rattle.query_meaning.specs.Order.{Item, are_plain, order_faults, plain_column, rows_cmp, sorted}
-use Rattle.query_plan.specs.Plan.{choosing, nodes_result}
 use Rattle.row_columns.specs.Picked.{numbered}
 use Rattle.row_selection.specs.Numbers.{numbers_from}
 use Rattle.sort_rows.specs.Best.{best_rows, BestInPieces}
@@ -38,23 +36,15 @@ use Rattle.row_columns.proofs.NumberedLaws.{all_numbered}
 
 -- ---- items that never divide by zero
 
-some_is : (o : Option CellValue) → is_some o ≡ true → is_none o ≡ false
-some_is None h = absurd (cc)
-some_is (Some v) h = refl
-
 safe_row : FaultsAreForeseen → (items : List Item) (row : List CellValue) → none_can_fault items ≡ true → order_faults items row ≡ false
 safe_row law [] row h = refl
 safe_row law (item ∷ items) row h =
     let parts = and_parts (not (can_fault item.0)) (none_can_fault items) h in
-    ap (λ b. b || order_faults items row) (some_is (outcome item.0 row) (law.expressions item.0 row (not_not (can_fault item.0) parts.0))) ∙ safe_row law items row parts.1
-  where
-    not_not : (b : Bool) → not b ≡ true → b ≡ false
-    not_not true e = absurd (cc)
-    not_not false e = refl
+    grind (arith, law.expressions item.0 row (not-true (can_fault item.0) parts.0), safe_row law items row parts.1)
 
 none_faults : FaultsAreForeseen → (items : List Item) (rows : List (List CellValue)) → none_can_fault items ≡ true → list_any (order_faults items) rows ≡ false
 none_faults law items [] h = refl
-none_faults law items (row ∷ rows) h = ap (λ b. b || list_any (order_faults items) rows) (safe_row law items row h) ∙ none_faults law items rows h
+none_faults law items (row ∷ rows) h = rw (safe_row law items row h) (none_faults law items rows h)
 
 -- the rows have an order by them
 pub safe_never_faults : FaultsAreForeseen → (items : List Item) → none_can_fault items ≡ true → NeverFault items
@@ -70,8 +60,7 @@ never_faults law items most rows safe e = let is = sym (safe_best law items most
 pub plain_is_safe : (items : List Item) → are_plain items ≡ true → none_can_fault items ≡ true
 plain_is_safe [] plain = refl
 plain_is_safe (item ∷ items) plain =
-    let parts = and_parts (is_some (plain_column item.0)) (are_plain items) plain in
-    ap (λ b. not b && none_can_fault items) (column_is_safe item.0 parts.0) ∙ plain_is_safe items parts.1
+    let parts = and_parts (is_some (plain_column item.0)) (are_plain items) plain in rw (column_is_safe item.0 parts.0) (plain_is_safe items parts.1)
   where
     column_is_safe : (e : TypedExprOf) → is_some (plain_column e) ≡ true → can_fault e ≡ false
     column_is_safe (typed.integer (typed.number_column numbers.Integer place) bound) h = refl
@@ -84,9 +73,8 @@ plain_is_safe (item ∷ items) plain =
 -- of rows that the items fit, those with some numbers
 pub numbered_fit : (P : List CellValue → Type 0) (rows : List (List CellValue)) (numbers : List ℕ) → All P rows → All (λ n. n < length rows) numbers → All P (numbered numbers rows)
 numbered_fit P rows numbers fit within = λ k d h.
-    let long = length-map numbers (λ n. get_or rows n []) in
-    let inside : k < length numbers = omega (arith, h, long) in
-    subst P (sym (get_or-map (λ n. get_or rows n []) numbers k 0 d inside)) (fit (get_or numbers k 0) [] (within k 0 inside))
+    let inside : k < length numbers = omega (arith, length-map numbers (λ n. get_or rows n [])) in
+    rw (get_or-map (λ n. get_or rows n []) numbers k 0 d inside) (fit (get_or numbers k 0) [] (within k 0 inside))
 
 -- after rows of which the first are the same the first are the same
 best_behind : FaultsAreForeseen → BestInPieces → (items : List Item) (most : ℕ) (xs ys more : List (List CellValue)) → none_can_fault items ≡ true → best_rows items most xs ≡ best_rows items most ys
@@ -107,14 +95,11 @@ pub best_of : (s : TopNSink) (all numbers : List ℕ) → all ≡ numbers_from 0
     → best_rows (sink_items s) s.most (numbered all s.kept.columns.rows) ≡ Some (numbered numbers s.kept.columns.rows) → AreBestOf s numbers
 best_of s all numbers are within made = record {
   within = within;
-  rows = ap (best_rows (sink_items s) s.most) (sym (ap (λ ns. numbered ns s.kept.columns.rows) are ∙ all_numbered s.kept.columns.rows)) ∙ made;
+  rows = rw (are, all_numbered s.kept.columns.rows) at made;
 }
 
 pub first_are_kept : (s : TopNSink) (kept : Kept) (numbers : List ℕ) → AreBestOf s numbers → HasReduced s.kept kept numbers → AreFirst (record s { kept = kept })
-first_are_kept s kept numbers best has = record {
-  rows = s.kept.columns.rows;
-  best = best.rows ∙ ap (λ rows. Some rows) (sym has.rows);
-}
+first_are_kept s kept numbers best has = record { rows = s.kept.columns.rows; best = rw has.rows best.rows }
 
 pub cut_to : BestInPieces → (s : TopNSink) (kept : Kept) (cutoff : Option TruthExpr) (numbers : List ℕ) → ItemsFit (sink_items s) s.kept.columns.rows → AreBestOf s numbers → HasReduced s.kept kept numbers
     → HasCutoff (record s { kept = kept; cutoff = cutoff }) → HasCutRows s (record s { kept = kept; cutoff = cutoff })
@@ -122,11 +107,9 @@ cut_to law s kept cutoff numbers fit best has late = record {
   items = refl;
   most = refl;
   columns = has.same;
-  fit =
-      subst (ItemsFit (sink_items s)) (sym has.rows)
-      (numbered_fit (λ row. All (λ item. NumbersFit item.0 row) (sink_items s)) s.kept.columns.rows numbers fit best.within);
+  fit = rw has.rows (numbered_fit (λ row. All (λ item. NumbersFit item.0 row) (sink_items s)) s.kept.columns.rows numbers fit best.within);
   cutoff = late;
-  first = ap (best_rows (sink_items s) s.most) has.rows ∙ best_cut law (sink_items s) s.most s.kept.columns.rows (numbered numbers s.kept.columns.rows) best.rows;
+  first = rw has.rows (best_cut law (sink_items s) s.most s.kept.columns.rows (numbered numbers s.kept.columns.rows) best.rows);
 }
 
 -- what the items compute on rows of a block that may be among the first fits, after rows where it does
@@ -136,25 +119,15 @@ pub block_fits : (old : TopNSink) (mid : Kept) (block : TableOf) (found : Passed
 block_fits old mid block found numbers may timely kept =
     let P : List CellValue → Type 0 = λ row. All (λ item. NumbersFit item.0 row) (sink_items old) in
     let more = selected_rows (kept_places old.kept) may.passing in
-    let new : ItemsFit (sink_items old) more = back_fits P may.before more may.fits.0.numbers in
-    let found_fit : ItemsFit (sink_items old) (selected_rows (kept_places old.kept) (numbered found.rows block.rows)) =
-    subst (λ rs. ItemsFit (sink_items old) (selected_rows (kept_places old.kept) rs)) (sym may.are_found.first) new in
-    subst (ItemsFit (sink_items old)) (sym kept.rows)
-    (All-append P old.kept.columns.rows (selected_rows (kept_places old.kept) (numbered numbers block.rows)) may.pushed.fit (timely.fit found_fit))
-  where
-    back_fits : (P : List CellValue → Type 0) (xs ys : List (List CellValue)) → All P (xs ++ ys) → All P ys
-    back_fits P xs ys all = λ k d h.
-        let long = length-append xs ys in
-        subst P (get_or-append-add xs ys k d) (all (length xs + k) d (omega (arith, h, long)))
+    let new : ItemsFit (sink_items old) more = rw (drop-append_seam may.before more) at (All-drop P (length may.before) (may.before ++ more) may.fits.0.numbers) in
+    rw kept.rows (All-append P old.kept.columns.rows (selected_rows (kept_places old.kept) (numbered numbers block.rows)) may.pushed.fit (timely.fit (rw may.are_found.first new)))
 
 -- rows of a block that may be among the first join them, and then rows that are not are let go
 pub top_n_pushed : FaultsAreForeseen → BestInPieces → (old new : TopNSink) (mid : Kept) (rows : List (List CellValue)) (found : Passed) (numbers : List ℕ) → none_can_fault (sink_items old) ≡ true
     → AreTimely old rows found.rows numbers → HasKept old.kept mid (selected_rows (kept_places old.kept) (numbered numbers rows))
     → HasCutRows (record old { kept = mid }) new → PushesOn (sink.TopN old) (sink.TopN new) rows found
 top_n_pushed faults law old new mid rows found numbers safe timely kept cut = record {
-  nodes =
-      ap (λ (items : _). choosing (map order_view items.items) new.most ∷ []) cut.items
-      ∙ ap (λ most. choosing (sink_items old) most ∷ []) cut.most;
+  nodes = rw (cut.items, cut.most) refl;
   columns = record {
     places = cut.columns.places ∙ kept.same.places;
     names = cut.columns.names ∙ kept.same.names;
@@ -166,23 +139,16 @@ top_n_pushed faults law old new mid rows found numbers safe timely kept cut = re
       let front = old.kept.columns.rows in
       let more = selected_rows picked passing in
       let same : best new.kept.columns.rows ≡ best (before ++ more) =
-      cut.first ∙ ap best kept.rows ∙ timely.first ∙ ap (λ rs. best (front ++ selected_rows picked rs)) are.first
-      ∙ best_behind faults law (sink_items old) old.most front before more safe has.first in
+      cut.first ∙ ap best kept.rows ∙ timely.first ∙ rw are.first (best_behind faults law (sink_items old) old.most front before more safe has.first) in
       record {
-        safe = ap (λ (items : _). none_can_fault (map order_view items.items)) cut.items ∙ safe;
-        fit = subst (λ (items : _). ItemsFit (map order_view items.items) new.kept.columns.rows) (sym cut.items) cut.fit;
+        safe = rw cut.items safe;
+        fit = rw cut.items cut.fit;
         cutoff = cut.cutoff;
-        first =
-            subst (λ (items : _). best_rows (map order_view items.items) new.most new.kept.columns.rows ≡ best_rows (map order_view items.items) new.most (before ++ more)) (sym cut.items)
-            (subst (λ most. best_rows (sink_items old) most new.kept.columns.rows ≡ best_rows (sink_items old) most (before ++ more)) (sym cut.most) same);
+        first = rw (cut.items, cut.most) same;
       };
 }
 
 -- the first of those that are kept are the first of all
 pub top_n_finishes : (s : TopNSink) (numbers : List ℕ) (given : ResultOf) → AreBestOf s numbers
     → given ≡ without_count (kept_names s.kept) (numbered numbers s.kept.columns.rows) → SinkGives (sink.TopN s) given
-top_n_finishes s numbers given are is = record {
-  gives = λ rows best.
-      ap (λ best. option_and_then (nodes_result []) (option_map (λ rs. without_count (kept_names s.kept) rs) best)) (sym best.first ∙ are.rows)
-      ∙ ap Some (sym is);
-}
+top_n_finishes s numbers given are is = record { gives = λ rows best. rw (is, sym best.first ∙ are.rows) refl }

@@ -1,14 +1,9 @@
-use Rattle.std.proofs.Common.{◌+◌, List, subst, sym}
-use Rattle.block_eval.specs.declared.columns.BlockColumn.{BlockColumn}
-use Rattle.block_filter.proofs.LaneLemmas.{columns_are, one_column_more, AreFirstColumns}
+use Rattle.block_filter.proofs.LaneLemmas.{columns_are, one_column_more}
 use Rattle.block_filter.proofs.columns.block_columns.Goals as goal
 
 pub loop-col-preserved : goal.loop-col-preserved
 loop-col-preserved c =
-    let rows = c.args.block.now.rows in
-    let col = c.loop-col.col in
-    subst (λ columns. AreFirstColumns rows columns (col + 1)) (sym {A = List BlockColumn} c.in_ok-push.ensures.items)
-    (one_column_more rows c.loop-col.columns.items col c.in-Some.column c.in-Some.ensures c.loop-col.invariant)
+    rw c.in_ok-push.ensures.items (one_column_more c.args.block.now.rows c.loop-col.columns.items c.loop-col.col c.in-Some.column c.in-Some.ensures c.loop-col.invariant)
 
 pub returns : goal.returns
 returns c = columns_are c.args.block.now.rows c.loop-col.columns.items c.loop-col.col c.loop-col.invariant

@@ -1,10 +1,6 @@
-use Rattle.std.proofs.Common.{◌≡◌, ◌<◌, ◌+◌, ◌||◌, [], ap, arith, get_or, length, subst, ◌∙◌}
-use Rattle.std.specs.Prelude.{slice_set}
-use Rattle.query_meaning.specs.Filter.{is_true}
+use Rattle.std.proofs.Common.{arith}
 use Rattle.typed_trees.specs.TypedTree.{truth_view}
-use Rattle.row_eval.specs.Outcome.{truth_outcome}
-use Rattle.row_eval.specs.Row.{row_view}
-use Rattle.block_filter.proofs.RowLemmas.{all_narrowed, none_is, other_row, wanted_row, AreNarrowed}
+use Rattle.block_filter.proofs.RowLemmas.{all_narrowed, none_is, other_row, wanted_row}
 use Rattle.block_filter.proofs.rows.narrow_by_rows.Goals as goal
 use Rattle.block_filter.proofs.rows.narrow_by_rows.Goals.{then-wanted-row+in_ok-read_row+in_ok-outcome, else-wanted-row}
 
@@ -14,17 +10,14 @@ loop-row-preserved c =
     let rows = c.args.block.now.rows in
     let was = c.args.wanted.now in
     let i = c.loop-row.row in
-    let inside : i < length was = omega (arith, c.loop-row-test.true) in
     elim c.if-wanted-row.branch [
       | then-wanted-row+in_ok-read_row+in_ok-outcome w ↦
-          let values = ap row_view w.deref.ensures.value ∙ w.in_ok-read_row.ensures in
-          let made : w.in_ok-outcome.outcome ≡ truth_outcome e (get_or rows i []) = w.in_ok-outcome.ensures ∙ ap (truth_outcome e) values in
           let outcome = w.in_ok-outcome.outcome in
-          rw (w.wanted-is, w.faulted-is) (rw w.is_true.ensures
-          (subst (λ b. AreNarrowed e rows was (slice_set c.loop-row.wanted i (is_true outcome)) (i + 1) (c.loop-row.faulted || b)) (none_is outcome w.is_none-faulted.result w.is_none-faulted.ensures)
-          (wanted_row e rows was c.loop-row.wanted i c.loop-row.faulted inside c.requires.long c.loop-row.invariant outcome w.if-wanted-row.true made c.loop-row.auto.wanted)))
+          let made = rw (w.deref.ensures.value, w.in_ok-read_row.ensures) at w.in_ok-outcome.ensures in
+          rw (w.wanted-is, w.faulted-is, w.is_true.ensures, ← (none_is outcome w.is_none-faulted.result w.is_none-faulted.ensures))
+          (wanted_row e rows was c.loop-row.wanted i c.loop-row.faulted (omega (arith, c.loop-row-test.true)) c.requires.long c.loop-row.invariant outcome w.if-wanted-row.true made c.loop-row.auto.wanted)
       | else-wanted-row w ↦
-          rw (w.wanted-is, w.faulted-is) (other_row e rows was c.loop-row.wanted i c.loop-row.faulted inside c.requires.long c.loop-row.invariant w.if-wanted-row.false)
+          rw (w.wanted-is, w.faulted-is) (other_row e rows was c.loop-row.wanted i c.loop-row.faulted (omega (arith, c.loop-row-test.true)) c.requires.long c.loop-row.invariant w.if-wanted-row.false)
     ]
 
 pub returns : goal.returns

@@ -9,9 +9,7 @@ use Rattle.key_index.proofs.RowLemmas.{key_value}
 use Rattle.key_index.proofs.cells.has_key.Goals as goal
 
 pub returns-then-key-places-clause-no : goal.returns-then-key-places-clause-no
-returns-then-key-places-clause-no c _ same =
-    c.if-key-places.true
-    (sym (length-map c.args.key.now value_view) ∙ ap length same ∙ length-map c.args.places.now (λ place. get_or (typed_row c.args.row c.args.columns.now) place null))
+returns-then-key-places-clause-no c _ same = c.if-key-places.true (simp length-map at (ap length same))
 
 pub returns-then-ne-clause-no : goal.returns-then-ne-clause-no
 returns-then-ne-clause-no c _ same =

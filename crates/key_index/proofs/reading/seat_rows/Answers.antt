@@ -1,4 +1,4 @@
-use Rattle.std.proofs.Common.{◌≡◌, ◌<◌, ◌+◌, ℕ, List, [], None, Some, Global, Vec, get_or, length, map, take, true, subst, sym, ap, ◌∙◌, arith}
+use Rattle.std.proofs.Common.{◌≡◌, ◌<◌, ◌+◌, ℕ, List, [], None, Global, Vec, get_or, length, map, take, true, subst, sym, ap, ◌∙◌, arith}
 use Rattle.std.proofs.lemmas.List.{with_items_is}
 use Rattle.cell_types.specs.Value.{CellValue, value_view}
 use Rattle.key_index.specs.Key.{has_null, repeated_row, row_key}

@@ -1,11 +1,10 @@
-use Rattle.std.proofs.Common.{◌≡◌, ◌≢◌, ◌<◌, ◌+◌, ◌-◌, ℕ, List, get_or, length, map, subst, sym, ap, ◌∙◌, arith}
+use Rattle.std.proofs.Common.{◌≡◌, ◌≢◌, ◌<◌, ◌+◌, ◌-◌, ℕ, get_or, length, map, sym, ap, ◌∙◌, arith}
 use Rattle.std.proofs.lemmas.List.{get_or_default}
-use Rattle.cell_types.specs.Value.{CellValue, value_view}
+use Rattle.cell_types.specs.Value.{value_view}
 use Rattle.key_index.specs.Hashes.{key_hash}
-use Rattle.key_index.specs.Key.{row_key}
-use Rattle.key_index.specs.Keys.{typed_row}
 use Rattle.key_index.specs.Slots.{first_slot, free, raise_of, slot_at, slot_index}
-use Rattle.key_index.proofs.SlotLemmas.{all_taken, index_again, index_next, index_within, looked_more, none_at_free, none_in_all, HaveLooked}
+use Rattle.key_index.proofs.SlotLemmas.{all_taken, index_again, index_next, index_within, looked_more, none_at_free, none_in_all}
+use Rattle.key_index.proofs.RowLemmas.{key_at}
 use Rattle.key_index.proofs.slots.walk.Goals.{then-slot-raised+else-row-rows, else-row-rows-via-then-row-rows+else-has_key, else-row-rows-via-else-row-rows, else-slot-raised, then-at-slots, else-at-slots}
 use Rattle.key_index.proofs.slots.walk.Goals as goal
 
@@ -14,15 +13,14 @@ returns-then-slot c =
     let slots = c.args.slots.now in
     let n = length slots in
     let key = map value_view c.args.key.now in
-    let key_at : ℕ → List CellValue = λ row. row_key c.args.places.now (typed_row row c.args.columns.now) in
     let first = first_slot (key_hash key) n in
     let raise = raise_of (key_hash key) n in
-    let first_is : c.first_slot-at.result ≡ first = c.first_slot-at.ensures.slot ∙ ap (λ h. first_slot h n) c.hash_of-hash.ensures in
-    let raised_is : c.raise-raised.result ≡ raise = c.raise-raised.ensures.raise ∙ ap (λ h. raise_of h n) c.hash_of-hash.ensures in
+    let first_is : c.first_slot-at.result ≡ first = rw c.hash_of-hash.ensures at c.first_slot-at.ensures.slot in
+    let raised_is : c.raise-raised.result ≡ raise = rw c.hash_of-hash.ensures at c.raise-raised.ensures.raise in
     let place = first + c.loop-look._look in
     let at = c.loop-look.at in
     let end : place < first + n = omega (arith, c.loop-look-test.true) in
-    let within : at < n = subst (λ i. i < n) (sym c.loop-look.invariant.at) (index_within n place (omega (arith, end, first_is, c.first_slot-at.ensures.within))) in
+    let within : at < n = rw c.loop-look.invariant.at (index_within n place (omega (arith, end, first_is, c.first_slot-at.ensures.within))) in
     let is : get_or slots at free ≡ free = get_or_default slots at free 0 within ∙ c.if-slot.true in
     let here : slot_at slots place ≡ free = ap (λ i. get_or slots i free) (sym c.loop-look.invariant.at) ∙ is in (
       record {
@@ -34,7 +32,7 @@ returns-then-slot c =
         same = sym c.loop-look.invariant.at;
         taken = c.loop-look.invariant.looked.taken;
       },
-      none_at_free slots first raise c.args.rows key_at key place c.loop-look.invariant.looked here (omega arith)
+      none_at_free slots first raise c.args.rows (key_at c.args.places.now c.args.columns.now) key place c.loop-look.invariant.looked here (omega arith)
           (omega (arith, raised_is, c.raise-raised.ensures.room)) c.requires.rows,
     )
 
@@ -43,25 +41,24 @@ loop-look-preserved c =
     let slots = c.args.slots.now in
     let n = length slots in
     let key = map value_view c.args.key.now in
-    let key_at : ℕ → List CellValue = λ row. row_key c.args.places.now (typed_row row c.args.columns.now) in
     let first = first_slot (key_hash key) n in
     let raise = raise_of (key_hash key) n in
-    let first_is : c.first_slot-at.result ≡ first = c.first_slot-at.ensures.slot ∙ ap (λ h. first_slot h n) c.hash_of-hash.ensures in
-    let raised_is : c.raise-raised.result ≡ raise = c.raise-raised.ensures.raise ∙ ap (λ h. raise_of h n) c.hash_of-hash.ensures in
+    let first_is : c.first_slot-at.result ≡ first = rw c.hash_of-hash.ensures at c.first_slot-at.ensures.slot in
+    let raised_is : c.raise-raised.result ≡ raise = rw c.hash_of-hash.ensures at c.raise-raised.ensures.raise in
     let place = first + c.loop-look._look in
     let at = c.loop-look.at in
     let slot = get_or slots at 0 in
     let end : place + 1 < n + n = omega (arith, c.loop-look-test.true, first_is, c.first_slot-at.ensures.within) in
-    let within : at < n = subst (λ i. i < n) (sym c.loop-look.invariant.at) (index_within n place (omega (arith, end))) in
+    let within : at < n = rw c.loop-look.invariant.at (index_within n place (omega (arith, end))) in
     let here : slot_at slots place ≡ slot = ap (λ i. get_or slots i free) (sym c.loop-look.invariant.at) ∙ get_or_default slots at free 0 within in
     let more : place + 1 ≡ first + (c.loop-look._look + 1) = omega arith in
-    let other : (row : ℕ) → row < c.args.rows → slot_at slots place ≡ raise + row → key ≢ key_at row = λ row inside holds same.
+    let other : (row : ℕ) → row < c.args.rows → slot_at slots place ≡ raise + row → key ≢ key_at c.args.places.now c.args.columns.now row = λ row inside holds same.
     let value : slot ≡ c.raise-raised.result + row = sym here ∙ holds ∙ ap (λ r. r + row) (sym raised_is) in
     elim c.if-slot-raised.branch [
       | then-slot-raised+else-row-rows w ↦ elim w.else-row-rows.branch [
         | else-row-rows-via-then-row-rows+else-has_key v ↦
             let row_is : row ≡ slot - c.raise-raised.result = omega (arith, value) in
-            v.has_key.ensures.no v.if-has_key.false (same ∙ ap key_at row_is)
+            v.has_key.ensures.no v.if-has_key.false (same ∙ ap (key_at c.args.places.now c.args.columns.now) row_is)
         | else-row-rows-via-else-row-rows v ↦ absurd (omega (arith, value, inside, v.if-row-rows.false))
       ]
       | else-slot-raised w ↦ absurd (omega (arith, value, w.if-slot-raised.false))
@@ -70,8 +67,7 @@ loop-look-preserved c =
         | then-at-slots w ↦ w.at-is ∙ index_again n place at c.loop-look.invariant.at w.if-at-slots.true end ∙ ap (slot_index n) more
         | else-at-slots w ↦ w.at-is ∙ index_next n place at c.loop-look.invariant.at w.if-at-slots.false end ∙ ap (slot_index n) more
       ];
-      looked = subst (HaveLooked slots first raise c.args.rows key_at key) more
-          (looked_more slots first raise c.args.rows key_at key place c.loop-look.invariant.looked (λ e. c.if-slot.false (sym here ∙ e)) other);
+      looked = rw (← more) (looked_more slots first raise c.args.rows (key_at c.args.places.now c.args.columns.now) key place c.loop-look.invariant.looked (λ e. c.if-slot.false (sym here ∙ e)) other);
     }
 
 pub returns : goal.returns
@@ -79,12 +75,11 @@ returns c =
     let slots = c.args.slots.now in
     let n = length slots in
     let key = map value_view c.args.key.now in
-    let key_at : ℕ → List CellValue = λ row. row_key c.args.places.now (typed_row row c.args.columns.now) in
     let first = first_slot (key_hash key) n in
     let raise = raise_of (key_hash key) n in
-    let first_is : c.first_slot-at.result ≡ first = c.first_slot-at.ensures.slot ∙ ap (λ h. first_slot h n) c.hash_of-hash.ensures in
+    let first_is : c.first_slot-at.result ≡ first = rw c.hash_of-hash.ensures at c.first_slot-at.ensures.slot in
     let all : first + c.loop-look._look ≡ first + n = omega (arith, c.loop-look-test.false, c.loop-look.auto._look-end) in
-    let looked = subst (HaveLooked slots first raise c.args.rows key_at key) all c.loop-look.invariant.looked in (
-      all_taken slots first raise c.args.rows key_at key looked (omega (arith, first_is, c.first_slot-at.ensures.within)),
-      none_in_all slots first raise c.args.rows key_at key looked,
+    let looked = rw all at c.loop-look.invariant.looked in (
+      all_taken slots first raise c.args.rows (key_at c.args.places.now c.args.columns.now) key looked (omega (arith, first_is, c.first_slot-at.ensures.within)),
+      none_in_all slots first raise c.args.rows (key_at c.args.places.now c.args.columns.now) key looked,
     )

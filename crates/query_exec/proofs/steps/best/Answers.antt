@@ -1,11 +1,7 @@
-use Rattle.std.proofs.Common.{◌≡◌, ◌∙◌, ap, length, map, rules, subst}
-use Rattle.std.specs.Global.{Global}
-use Rattle.std.specs.Prelude.{Err}
+use Rattle.std.proofs.Common.{length, map, rules, ◌∙◌}
 use Rattle.odata_query.specs.Query.{order_view}
-use Rattle.query_plan.specs.Plan.{choosing, node_result, node_rows}
+use Rattle.query_plan.specs.Plan.{choosing, node_result}
 use Rattle.row_columns.proofs.NumberedLaws.{all_numbered, all_within}
-use Rattle.row_selection.specs.Numbers.{numbers_from}
-use Rattle.sort_rows.specs.Numbers.{GivesOrder}
 use Rattle.query_exec.proofs.StepLemmas.{step_fails, step_gives, stored_in_order}
 use Rattle.query_exec.proofs.steps.best.Goals as goal
 
@@ -20,12 +16,8 @@ with_rows-requires c = rw c.as_slice.ensures.value (rw (c.of-columns.ensures, c.
 
 pub returns-in_err-numbers : goal.returns-in_err-numbers
 returns-in_err-numbers c =
-    let node = choosing (map order_view c.args.items.now) c.args.most in
-    let fault = c.in_err-numbers.field-0.0 in
-    let r = c.args.input in
-    let all : c.in_ok-all.all.items ≡ numbers_from 0 (length r.rows) = c.in_ok-all.ensures ∙ ap (numbers_from 0) c.len.ensures in
-    let here = subst (λ rs. GivesOrder {A = Global} (node_rows node) rs c.in_ok-all.all.items (Err fault)) (c.of-columns.ensures ∙ c.columns.ensures.rows) c.in_err-numbers.ensures in
-    let given = step_fails node r fault (subst (λ ns. GivesOrder {A = Global} (node_rows node) r.rows ns (Err fault)) all here) in
+    let given = step_fails (choosing (map order_view c.args.items.now) c.args.most) c.args.input c.in_err-numbers.field-0.0 c.of-columns.result.rows c.in_ok-all.all.items
+    (c.of-columns.ensures ∙ c.columns.ensures.rows) (rw c.len.ensures at c.in_ok-all.ensures) c.in_err-numbers.ensures in
     search (rules, given)
 
 pub returns : goal.returns

@@ -1,10 +1,6 @@
-use Rattle.std.proofs.Common.{◌≡◌, ◌∙◌, ap, length, rules, subst}
-use Rattle.std.specs.Global.{Global}
-use Rattle.std.specs.Prelude.{Err}
+use Rattle.std.proofs.Common.{length, rules, ◌∙◌}
 use Rattle.typed_trees.specs.TypedTree.{truth_view}
-use Rattle.query_plan.specs.Plan.{filtering, node_result, node_rows}
-use Rattle.row_selection.specs.Numbers.{numbers_from}
-use Rattle.sort_rows.specs.Numbers.{GivesOrder}
+use Rattle.query_plan.specs.Plan.{filtering, node_result}
 use Rattle.row_columns.proofs.NumberedLaws.{all_numbered, all_within}
 use Rattle.query_exec.proofs.StepLemmas.{step_fails, step_gives, stored_in_order}
 use Rattle.query_exec.proofs.steps.filter.Goals as goal
@@ -20,12 +16,8 @@ with_rows-requires c = rw c.as_slice-2.ensures.value (rw c.columns.ensures.rows 
 
 pub returns-in_err-numbers : goal.returns-in_err-numbers
 returns-in_err-numbers c =
-    let r = c.args.input in
-    let node = filtering (truth_view c.args.condition.now) in
-    let fault = c.in_err-numbers.field-0.0 in
-    let all : c.as_slice.result.now ≡ numbers_from 0 (length r.rows) = c.as_slice.ensures.value ∙ c.in_ok-all.ensures ∙ ap (numbers_from 0) c.len.ensures in
-    let here = subst (λ rs. GivesOrder {A = Global} (node_rows node) rs c.as_slice.result.now (Err fault)) c.columns.ensures.rows c.in_err-numbers.ensures in
-    let given = step_fails node r fault (subst (λ ns. GivesOrder {A = Global} (node_rows node) r.rows ns (Err fault)) all here) in
+    let given = step_fails (filtering (truth_view c.args.condition.now)) c.args.input c.in_err-numbers.field-0.0 c.columns.result.now.rows c.as_slice.result.now
+    c.columns.ensures.rows (c.as_slice.ensures.value ∙ (rw c.len.ensures at c.in_ok-all.ensures)) c.in_err-numbers.ensures in
     search (rules, given)
 
 pub returns : goal.returns

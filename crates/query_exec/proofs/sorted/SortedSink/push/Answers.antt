@@ -1,7 +1,3 @@
-use Rattle.std.proofs.Common.{map, subst, sym}
-use Rattle.odata_query.specs.Query.{order_view}
-use Rattle.sort_rows.specs.Runs.{HasInRuns, HasMoreRows}
-use Rattle.query_exec.specs.Items.{ItemsFit}
 use Rattle.query_exec.proofs.SortedLemmas.{all_of_table, has_more_rows, kept_fit, sorted_pushed}
 use Rattle.query_exec.proofs.sorted.SortedSink.push.Goals as goal
 
@@ -12,15 +8,13 @@ keep_shown-requires-clause-columns c =
 
 pub push-requires-clause-more : goal.push-requires-clause-more
 push-requires-clause-more c =
-    subst (λ is. HasMoreRows (map order_view is) c.args.self.now.runs c.take.new.self.columns.rows) (sym c.deref.ensures.value)
-    (has_more_rows c.args.self.now c.take.new.self c.args.block.now c.args.found c.requires c.in_ok-take.ensures)
+    rw c.deref.ensures.value (has_more_rows c.args.self.now c.take.new.self c.args.block.now c.args.found c.requires c.in_ok-take.ensures)
 
 pub push-requires-clause-fits : goal.push-requires-clause-fits
 push-requires-clause-fits c =
-    subst (λ is. ItemsFit (map order_view is) c.take.new.self.columns.rows) (sym c.deref.ensures.value)
-    (kept_fit c.args.self.now c.take.new.self c.args.block.now c.args.found c.requires c.in_ok-take.ensures)
+    rw c.deref.ensures.value (kept_fit c.args.self.now c.take.new.self c.args.block.now c.args.found c.requires c.in_ok-take.ensures)
 
 pub returns : goal.returns
 returns c =
     sorted_pushed c.args.self.now c.take.new.self c.keep_shown.new.shown c.push.new.self c.args.block.now.rows c.args.found c.in_ok-take.ensures c.in_ok-keep_shown.ensures
-    (subst (λ is. HasInRuns (map order_view is) c.push.new.self c.take.new.self.columns.rows) c.deref.ensures.value c.in_ok-push.ensures)
+    (rw c.deref.ensures.value at c.in_ok-push.ensures)
