@@ -4,7 +4,7 @@ ghost use Rattle.std.specs.Option.{option_copied};
 ghost use Rattle.block_summary.specs.Ranges.{IsRangeOf};
 ghost use Rattle.block_summary.specs.declared.block.TheConstants.{BLOCK_ROWS};
 ghost use Rattle.cell_types.specs.Value.{null, value_view};
-ghost use Rattle.column_blocks.specs.TypedColumn.{block_in, cells_of_numbers, cells_of_texts};
+ghost use Rattle.column_blocks.specs.TypedColumn.{block_in, cells_in, cells_of_each, cells_of_numbers, cells_of_texts, AreBlocks, HaveKind};
 
 use crate::block_cells::BlockCells;
 use block_summary::{BLOCK_ROWS, PackedColumn, Range};
@@ -82,5 +82,15 @@ impl TypedColumn {
             (take BLOCK_ROWS (drop (number * BLOCK_ROWS) self.now.cells))) }
     {
         self.blocks[number].range(alloc)
+    }
+
+    /// Returns the blocks of the cells, in their order.
+    pub fn into_blocks(self) -> Vec<BlockCells>
+        ensures kind { HaveKind self.kind result.items }
+        ensures blocks { AreBlocks BLOCK_ROWS (cells_of_each result.items) }
+        ensures cells { cells_in (cells_of_each result.items) ≡ self.cells }
+    {
+        let TypedColumn { blocks, .. } = self;
+        blocks
     }
 }

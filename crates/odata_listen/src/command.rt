@@ -137,10 +137,11 @@ fn listen(
     rt: &HostRuntime,
     words: &ListenOptions<'_>,
     listener: ListeningSocket,
-    folder: Folder<'_>,
+    mut folder: Folder<'_>,
     catalog: Catalog,
 ) -> io::Result<()> {
     let tables = Rc::new(rt.alloc(), catalog)?;
+    folder.older.replace(tables.clone()?);
     let mut server = Server::new(rt.alloc(), tables, words.places)?;
     say_listening(rt, words, &listener)?;
     let limits = TimeLimits {

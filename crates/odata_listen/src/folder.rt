@@ -1,4 +1,5 @@
 //! A folder that is watched, and reloaded when it changed. Its metadata and the files that this names are looked at, and nothing else.
+use crate::older_tables::OlderTables;
 use crate::watch::{FolderLook, hand_over, is_final, look_of, pause_after, size_of};
 use odata_hub::Hub;
 use served_folders::{Disk, DiskLoaded, DiskLoading, FolderFault, Folders, METADATA, look};
@@ -46,6 +47,8 @@ pub struct Folder<'a> {
     left: u32,
     /// The load that is under way, if there is one.
     load: Option<Load>,
+    /// Handles of the tables that are served, and of those before them.
+    pub older: OlderTables,
 }
 
 /// Returns the milliseconds since `start`.
@@ -87,6 +90,7 @@ impl<'a> Folder<'a> {
             pause: 0,
             left: 0,
             load: None,
+            older: OlderTables::new(rt.alloc()),
         };
         folder.taken = folder.state(rt);
         folder
@@ -171,7 +175,7 @@ impl<'a> Folder<'a> {
         let size = size_of(&catalog, millis_since(rt, start));
         let after = self.state(rt);
         if look_of(&self.seen, &self.seen, &after) == FolderLook::Same {
-            let end = hand_over(rt.alloc(), hub, catalog);
+            let end = hand_over(rt.alloc(), hub, &mut self.older, catalog);
             let holds = is_final(&end);
             if holds || !self.wants {
                 log.reloaded(end.map(|()| size));
@@ -209,9 +213,9 @@ impl<'a> Folder<'a> {
         self.begin(rt, hub, log);
     }
 
-    /// Returns true if a load is under way.
-    pub fn is_loading(&self) -> bool {
-        self.load.is_some()
+    /// Returns true if a load is under way, or older tables are being dropped.
+    pub fn is_busy(&self) -> bool {
+        self.load.is_some() || self.older.is_dropping()
     }
 
     /// Takes one step of the load that is under way, if there is one: opens a file, reads a piece or a window of it, or reads the keys of a block of rows.

@@ -7,6 +7,7 @@ mod drain;
 mod endings;
 mod folder;
 mod limits;
+mod older_tables;
 mod serving;
 mod stopwatch;
 mod turns;

@@ -6,6 +6,7 @@ use crate::drain::Drain;
 use crate::endings::{Moment, end_all_slow};
 use crate::folder::Folder;
 use crate::limits::{KeptLimits, Terms};
+use crate::older_tables::OlderTables;
 use crate::stopwatch::Stopwatch;
 use crate::turns::{Circle, Circles, run_round};
 use listen_args::MOST_PLACES;
@@ -17,6 +18,9 @@ use service_log::Log;
 use socket_listener::ListeningSocket;
 use std::io::{self, ErrorKind};
 use std::rt::{Clock, Files};
+
+/// The most turns in one tick in which older tables are dropped.
+const MOST_TURNS: u32 = 1_000;
 
 /// What the service has beside its places and sockets: the folder that it serves, how long a peer may take, how much a query may keep, and its log.
 #[derive(Drop)]
@@ -145,10 +149,34 @@ fn tend(
     server.sockets.try_writes();
 }
 
-/// Takes one step of the load of the folder that is under way, if there is one.
-fn load_on(rt: &HostRuntime, server: &mut Server, service: &mut Service<'_>)
+/// Drops parts of older tables until the time of the round is over.
+fn drop_older(watch: &mut Stopwatch<'_>, older: &mut OlderTables) {
+    for _turn in 0..MOST_TURNS {
+        older.drop_some();
+        if !older.is_dropping() {
+            return;
+        }
+        let _micros = watch.lap();
+        if watch.is_over() {
+            return;
+        }
+    }
+}
+
+/// Drops parts of older tables, and if none are left takes one step of the load of the folder that is under way, if there is one.
+#[tactic(auto, using(crate::proofs::ServingLemmas::on_none))]
+fn load_on(
+    rt: &HostRuntime,
+    watch: &mut Stopwatch<'_>,
+    server: &mut Server,
+    service: &mut Service<'_>,
+)
     ensures { RunsOn server.old server.new }
 {
+    drop_older(watch, &mut service.folder.older);
+    if service.folder.older.is_dropping() {
+        return;
+    }
     service.folder.work(rt, &mut server.hub, &mut service.log);
 }
 
@@ -178,12 +206,12 @@ fn tick(
         kept: service.kept,
     };
     let busy = run_round(watch, server, &terms, &mut service.log, &mut course.circles);
-    load_on(rt, server, service);
+    load_on(rt, watch, server, service);
     tend(rt, server, service, poller, is_new);
     let took = accept(server, poller, &mut service.log);
     service.drain.look(rt, server, poller);
     service.log.flush();
-    course.busy = busy || took || service.folder.is_loading();
+    course.busy = busy || took || service.folder.is_busy();
     Ok(())
 }
 

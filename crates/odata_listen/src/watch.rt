@@ -3,6 +3,7 @@ ghost use Rattle.std.specs.Prelude.{◌≡◌};
 ghost use Rattle.odata_listen.specs.Laws.{WorkedPauses};
 ghost use Rattle.odata_listen.specs.Watch.{HandsOver, IsSize, Looks, is_final, next_pause};
 
+use crate::older_tables::OlderTables;
 use exit_statuses::ProgramFault;
 use odata_hub::Hub;
 use served_folders::FolderFault;
@@ -81,11 +82,12 @@ pub fn look_of(taken: &str, seen: &str, found: &str) -> FolderLook
     }
 }
 
-/// Hands the tables of a folder to the hub; if the folder was refused, the hub keeps those that it has.
+/// Hands the tables of a folder to the hub, and a handle of them to `older`; if the folder was refused, the hub keeps those that it has.
 #[tactic(auto, using(crate::proofs::ReloadLemmas::reload_step))]
 pub fn hand_over(
     alloc: Global,
     hub: &mut Hub,
+    older: &mut OlderTables,
     loaded: Result<Catalog, FolderFault>,
 ) -> Result<(), ProgramFault>
     ensures { HandsOver loaded hub.old hub.new result }
@@ -95,7 +97,11 @@ pub fn hand_over(
             let Ok(tables) = Rc::new(alloc, catalog) else {
                 return Err(ProgramFault::NoMemory);
             };
+            let Ok(handle) = tables.clone() else {
+                return Err(ProgramFault::NoMemory);
+            };
             hub.reload(tables);
+            older.replace(handle);
             Ok(())
         }
         Err(fault) => Err(ProgramFault::Folder(fault)),

@@ -13,3 +13,4 @@ pub mod SummaryLemmas
 pub mod StageLemmas
 pub mod FolderStepLemmas
 pub mod MemoryLemmas
+pub mod RemainsLemmas

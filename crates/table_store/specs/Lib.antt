@@ -11,6 +11,7 @@ pub mod Catalog
 pub mod FolderSteps
 pub mod Laws
 pub mod Worked
+pub mod Remains
 pub use Rattle.csv_grammar.specs.Files
 pub use Rattle.cell_types.specs.Value
 pub use Rattle.cell_types.specs.Column

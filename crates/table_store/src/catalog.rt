@@ -6,10 +6,12 @@ ghost use Rattle.csvw_meta.specs.Limits.{limits_view};
 ghost use Rattle.table_store.specs.Fault.{load_cause};
 ghost use Rattle.table_store.specs.Catalog.{folder_view, FolderOf, Means, IsRefused};
 ghost use Rattle.table_store.specs.FolderSteps.{steps_left, LoadsIn, LoadsOnIn};
+ghost use Rattle.table_store.specs.Remains.{parts_of_tables};
 
 use crate::fault::LoadFault;
 use crate::file::{NamedFile, take_file};
 use crate::folder_loading::{Loaded, Loading};
+use crate::remains::Remains;
 use crate::table::Table;
 use csvw_meta::Limits;
 use std::alloc::Global;
@@ -108,5 +110,12 @@ impl Catalog {
             ≡ find (λ table. bytes_eq table.schema.name name.now) self.now.tables }
     {
         self.tables.iter().find(|table| table.name() == name)
+    }
+
+    /// Returns the tables as what is left of them, which is dropped in parts.
+    pub fn into_remains(self, alloc: Global) -> Remains
+        ensures { result ≡ parts_of_tables self.tables }
+    {
+        Remains::of_tables(alloc, self.tables)
     }
 }

@@ -10,6 +10,7 @@ mod file;
 mod folder_loading;
 mod laws;
 mod reading;
+mod remains;
 mod summaries;
 mod table;
 mod table_fault;
@@ -24,4 +25,5 @@ pub use laws::{
     first_bad_cell_is_first, first_mismatch_is_first, keys_of_tables, one_meaning,
     schemas_of_tables, worked_tables,
 };
+pub use remains::Remains;
 pub use table::Table;

@@ -1,6 +1,6 @@
 //! A table of a folder: its schema, the values of its cells, and its rows by their keys.
 ghost use Rattle.std.specs.Prelude.{◌≡◌, ◌+◌, ◌^◌, ◌<◌, ◌≤◌, ℕ, List, Option, [], Some, None, IfOk, IsOk, IfErr, length, map, slice_get, slice_index_or, option_and_then, option_map, take, drop, string_bytes};
-ghost use Rattle.std.specs.List.{AllByRecursion};
+ghost use Rattle.std.specs.List.{sum_by, AllByRecursion};
 ghost use Rattle.std.specs.Option.{option_copied};
 ghost use Rattle.cell_types.specs.Value.{value_view};
 ghost use Rattle.csvw_meta.specs.Schema.{schema_view};
@@ -9,6 +9,7 @@ ghost use Rattle.table_store.specs.Fits.{HasTableRows};
 ghost use Rattle.table_store.specs.Fault.{bad_table, load_cause};
 ghost use Rattle.key_index.specs.Key.{row_of};
 ghost use Rattle.table_store.specs.Loading.{table_cause, HasKeyColumns};
+ghost use Rattle.table_store.specs.Remains.{column_parts, table_parts};
 ghost use Rattle.table_store.specs.Steps.{IsReadWhole, IsTableOfRows};
 ghost use Rattle.table_store.specs.Summaries.{AreSummariesOf};
 ghost use Rattle.table_store.specs.Table.{keys_of};
@@ -172,6 +173,19 @@ impl Table {
             keys: rows.keys,
             summaries,
         })
+    }
+
+    /// Returns the columns and the summaries of the blocks.
+    pub(crate) fn into_parts(self) -> (Vec<TypedColumn>, Vec<Summary>)
+        ensures { sum_by column_parts result.0.items + length result.1.items + 1
+            ≡ table_parts self }
+    {
+        let Table {
+            columns,
+            summaries,
+            ..
+        } = self;
+        (columns, summaries)
     }
 }
 
