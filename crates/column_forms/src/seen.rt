@@ -1,10 +1,12 @@
 //! The cells of a column, as far as they are read.
+ghost use Rattle.std.specs.Cow.{cow_slice_items};
 ghost use Rattle.std.specs.Prelude.{◌≡◌, ◌<◌, [], IfOk, IfSome, MatchOption, is_some, slice_index_or};
 ghost use Rattle.column_forms.specs.CellsSeen.{BeginsWithSpace, HasPlainSpaces, IsPlainByte, IsSeen, is_null_word, null_texts};
 
 use crate::candidates::candidates_of;
 use std::alloc::{AllocError, Global};
-use value_forms::{Form, made_by};
+use std::borrow::CowSlice;
+use value_forms::{Form, is_of_form};
 
 /// The texts that may stand for null.
 pub const NULLS: [&str; 9] = ["NA", "N/A", "n/a", "NULL", "null", "-", ".", "..", "#N/A"];
@@ -66,11 +68,15 @@ fn plain_spaces(alloc: Global, cell: &[u8]) -> Result<Vec<u8>, AllocError>
 }
 
 /// Returns a cell with plain spaces, and without spaces at its ends.
-pub fn seen_text(alloc: Global, cell: &[u8]) -> Result<Vec<u8>, AllocError>
-    ensures { IfOk result (λ made. IsSeen cell.now made.items) }
+pub fn seen_text(alloc: Global, cell: &[u8]) -> Result<CowSlice<'_, u8>, AllocError>
+    ensures { IfOk result (λ made. IsSeen cell.now (cow_slice_items made)) }
 {
+    if !cell.iter().any(|byte| matches!(*byte, 0xC2 | 0xE2)) {
+        return Ok(CowSlice::Borrowed(cell.trim_ascii()));
+    }
     let made = plain_spaces(alloc, cell)?;
-    Vec::from_slice(alloc, made.as_slice().trim_ascii())
+    let text = Vec::from_slice(alloc, made.as_slice().trim_ascii())?;
+    Ok(CowSlice::Owned(text))
 }
 
 /// Returns the text of [`NULLS`] with a number.
@@ -102,6 +108,12 @@ fn is_code(cell: &[u8]) -> bool {
     }
 }
 
+/// Returns true if a cell has a form. A column of codes has no numbers.
+fn fits(form: Form<'_>, is_code: bool, cell: &[u8]) -> bool {
+    let is_number = matches!(form, Form::Number(_));
+    !(is_number && is_code) && is_of_form(form, cell)
+}
+
 impl CellsSeen {
     /// Returns what is known of no cell.
     pub fn new(alloc: Global) -> Result<CellsSeen, AllocError> {
@@ -123,16 +135,9 @@ impl CellsSeen {
     }
 
     /// Keeps the forms that a cell has.
-    fn filter(&mut self, cell: &[u8]) -> Result<(), AllocError> {
-        let mut kept = Vec::new(self.alloc);
-        for form in self.forms.as_slice() {
-            let is_number = matches!(*form, Form::Number(_));
-            if !(is_number && self.is_code) && made_by(self.alloc, *form, cell)?.is_some() {
-                kept.push(*form)?;
-            }
-        }
-        self.forms = kept;
-        Ok(())
+    fn filter(&mut self, cell: &[u8]) {
+        let is_code = self.is_code;
+        self.forms.retain(|form| fits(*form, is_code, cell));
     }
 
     /// Reads a cell.
@@ -162,6 +167,7 @@ impl CellsSeen {
         self.cells = self.cells.saturating_add(1);
         self.has_mark |= text.iter().any(|byte| matches!(*byte, b'.' | b','));
         self.is_code |= is_code(text);
-        self.filter(text)
+        self.filter(text);
+        Ok(())
     }
 }

@@ -1,3 +1,4 @@
 mod DoubledLemmas
+mod FrontLemmas
 mod ReadLemmas
 mod WrittenLemmas

@@ -1,10 +1,9 @@
 -- Fields and records byte by byte.
-use Rattle.std.proofs.Common.{◌≡◌, ◌∙◌, ℕ, List, [], ◌∷◌, ◌++◌, map, ap, refl, sym, subst, append_assoc, append-nil, length-append, arith}
-use Rattle.std.specs.Prelude.{IsTrue}
+use Rattle.std.proofs.Common.{◌≡◌, ◌∙◌, ℕ, List, [], ◌∷◌, ◌++◌, map, ap, refl, sym, append_assoc, append-nil, length-append, arith}
 use Rattle.std.specs.List.{flat_map, AllByRecursion}
 use Rattle.std.proofs.lemmas.List.{map-append}
 use Rattle.csv_grammar.specs.Bytes.{comma, double_quote}
-use Rattle.csv_grammar.specs.Records.{Field, unquoted, quoted, IsField, doubled, is_plain, print_field, print_record}
+use Rattle.csv_grammar.specs.Records.{Field, unquoted, quoted, IsField, doubled, print_field, print_record}
 use Rattle.csv_records.specs.Exchange.{EndsRecord, IsFirstField, IsFirstRecord, IsPlainFront, exchanged, exchanged_content}
 use Rattle.csv_records.proofs.DoubledLemmas.{doubled-append}
 
@@ -49,17 +48,6 @@ inside_more separator byte cell text left rest e f =
 pub all_push : {X : Type 0} (P : X → Type 0) (xs : List X) (x : X) → AllByRecursion P xs → P x → AllByRecursion P (xs ++ x ∷ [])
 all_push P [] x each here = (here, tt)
 all_push P (y ∷ xs) x each here = (each.0, all_push P xs x each.1 here)
-
-pub plain_more : (separator byte : ℕ) (cell text left rest : List ℕ) → IsPlainFront separator text cell left → left ≡ byte ∷ rest → IsTrue (is_plain byte)
-    → IsPlainFront separator text (cell ++ exchanged separator byte ∷ []) rest
-plain_more separator byte cell text left rest front f plain =
-    let X : List ℕ → List ℕ = λ l. map (exchanged separator) l in
-    let one : X (cell ++ exchanged separator byte ∷ []) ≡ X cell ++ byte ∷ [] =
-    map-append (exchanged separator) cell (exchanged separator byte ∷ []) ∙ ap (λ (b : ℕ). X cell ++ b ∷ []) (exchanged_twice separator byte) in
-    record {
-      printed = front.printed ∙ ap (λ (l : List ℕ). X cell ++ l) f ∙ sym (append_assoc (X cell) (byte ∷ []) rest) ∙ ap (λ (l : List ℕ). l ++ rest) (sym one);
-      plain = subst (AllByRecursion (λ b. IsTrue (is_plain b))) (sym one) (all_push (λ b. IsTrue (is_plain b)) (X cell) byte front.plain plain);
-    }
 
 -- a field with the comma after it
 abbrev pub with_comma : Field → List ℕ

@@ -20,7 +20,7 @@ or_false : (a b : Bool) → (a || b) ≡ false → (a ≡ false) × (b ≡ false
 or_false true b e = absurd (false≢true (sym e))
 or_false false b e = (refl, e)
 
-not_special : (t : Bool) → t ≡ false → IsTrue (not t)
+pub not_special : (t : Bool) → t ≡ false → IsTrue (not t)
 not_special true e = absurd (false≢true (sym e))
 not_special false e = refl
 

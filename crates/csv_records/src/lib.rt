@@ -8,9 +8,9 @@ mod lines;
 mod read;
 mod write;
 
-pub use exchanges::{exchange, exchanged_text};
+pub use exchanges::exchange;
 pub use fault::RecordFault;
 pub use laws::{rows_read_back, worked_exchanges};
 pub use lines::{after_lines, with_line_feeds};
-pub use read::{Record, push_cell, read_record};
+pub use read::{Record, RecordCell, push_cell, read_record};
 pub use write::push_row;

@@ -1,10 +1,12 @@
 //! Rows as a text of RFC 4180 (section 2).
 ghost use Rattle.std.specs.Prelude.{◌≡◌, ◌<◌, ◌++◌, ◌∷◌, [], OnOk, length, map};
+ghost use Rattle.std.specs.Cow.{cow_slice_items};
 ghost use Rattle.std.specs.List.{list_any};
 ghost use Rattle.csv_grammar.specs.Bytes.{comma};
 ghost use Rattle.csv_grammar.specs.Records.{doubled, print_field, print_record};
 ghost use Rattle.csv_records.specs.Written.{field_for, is_special, quoted_bytes, row_bytes};
 
+use crate::read::RecordCell;
 use std::alloc::AllocError;
 
 /// Returns true if a byte can only be inside double quotes.
@@ -73,9 +75,9 @@ fn push_next(out: &mut Vec<u8>, cell: &[u8]) -> Result<(), AllocError>
 }
 
 /// Appends cells as fields with commas between.
-fn push_cells(out: &mut Vec<u8>, cells: &[Vec<u8>]) -> Result<(), AllocError>
+fn push_cells(out: &mut Vec<u8>, cells: &[RecordCell<'_>]) -> Result<(), AllocError>
     ensures { OnOk result (out.new.items ≡ out.old.items
-        ++ print_record (map field_for (map (λ cell. cell.items) cells.now))) }
+        ++ print_record (map field_for (map cow_slice_items cells.now))) }
 {
     let Some((first, others)) = cells.split_first() else {
         return Ok(());
@@ -88,9 +90,9 @@ fn push_cells(out: &mut Vec<u8>, cells: &[Vec<u8>]) -> Result<(), AllocError>
 }
 
 /// Appends a row: its cells as fields, and an LF.
-pub fn push_row(out: &mut Vec<u8>, cells: &[Vec<u8>]) -> Result<(), AllocError>
+pub fn push_row(out: &mut Vec<u8>, cells: &[RecordCell<'_>]) -> Result<(), AllocError>
     ensures { OnOk result (out.new.items
-        ≡ out.old.items ++ row_bytes (map (λ cell. cell.items) cells.now)) }
+        ≡ out.old.items ++ row_bytes (map cow_slice_items cells.now)) }
 {
     push_cells(out, cells)?;
     out.push(b'\n')?;

@@ -1,5 +1,7 @@
 -- What the columns write, one after another.
-use Rattle.std.proofs.Common.{◌≡◌, ◌∙◌, ℕ, zero, suc, ◌+◌, ◌<◌, List, [], ◌∷◌, ◌++◌, length, map, ap, refl, sym, subst, add-one, arith, get_or, slice_get, eqb-true, true, false, ◌==◌, Vec, Global, Some}
+use Rattle.std.proofs.Common.{◌≡◌, ◌∙◌, ℕ, zero, suc, ◌+◌, ◌<◌, List, [], ◌∷◌, ◌++◌, length, map, ap, refl, sym, subst, add-one, arith, get_or, slice_get, eqb-true, true, false, ◌==◌, Global, Some}
+use Rattle.std.specs.Cow.{cow_slice_items}
+use Rattle.std.specs.declared.borrow.CowSlice.{CowSlice}
 use Rattle.std.specs.Prelude.{IfOk, OnOk, Result, Ok, Err}
 use Rattle.std.proofs.Math.ListN.{set}
 use Rattle.file_convert.specs.Rows.{Plan, is_empty_line, AppendsCells, AreTitled, AreWritten, next_column, next_title, nth_cell, title_cells}
@@ -35,8 +37,8 @@ is_blank_row (cell ∷ next ∷ row) e = absurd (on cell e)
     on [] e = cc
     on (byte ∷ cell) e = cc
 
-abbrev pub said_cells : List (Vec ℕ Global) → List (List ℕ)
-said_cells cells = map (λ cell. cell.items) cells
+abbrev pub said_cells : List (CowSlice ℕ Global) → List (List ℕ)
+said_cells cells = map cow_slice_items cells
 
 pub plan_there : {X Y : Type 0} (f : X → Y) (xs : List X) (i : ℕ) (x : X) → i < length xs → x ≡ get_or xs i x → slice_get (map f xs) i ≡ Some (f x)
 plan_there f xs i x lt e = slice_get-map f xs i x lt ∙ ap (λ y. Some (f y)) (sym e)
@@ -48,6 +50,10 @@ if_ok (Err e) p f = tt
 pub some_items : {X : Type 0} (xs : List X) → (length xs == 0) ≡ false → 0 < length xs
 some_items [] e = absurd (cc)
 some_items (x ∷ xs) e = omega arith
+
+pub some_mapped : {X Y : Type 0} (f : X → Y) (xs : List X) → (length xs == 0) ≡ false → 0 < length (map f xs)
+some_mapped f [] e = absurd (cc)
+some_mapped f (x ∷ xs) e = omega arith
 
 pub when_ok : {T E : Type 0} {P : Type 0} (r : Result T E) (x : T) → r ≡ Ok x → IfOk r (λ _. P) → P
 when_ok {T} {E} {P} r x e p = let I : Result T E → Type 0 = λ s. IfOk s (λ _. P) in subst I e p

@@ -2,7 +2,7 @@
 use Rattle.std.proofs.Common.{◌≡◌, ◌∙◌, ℕ, ◌<◌, ◌≤◌, List, [], ◌∷◌, ◌++◌, length, map, ap, sym, subst, append_assoc, append-nil, inl, inr}
 use Rattle.std.proofs.lemmas.List.{map-append}
 use Rattle.csv_grammar.specs.Records.{Field, AreRecords}
-use Rattle.csv_records.specs.Exchange.{IsFirstRecord, exchanged_content}
+use Rattle.csv_records.specs.Exchange.{IsFirstRecord, exchanged, exchanged_content}
 use Rattle.csv_records.specs.Written.{AreRows, HaveCells, RowsReadBack, row_bytes, rows_bytes}
 use Rattle.file_convert.specs.declared.table.Reading.{Reading}
 use Rattle.file_convert.specs.Conversion.{AreConverted, no_row, empty_line, next_row, IsWrittenFor, PutsRow, PutsRows}
@@ -89,15 +89,16 @@ rows_done plans how text before now so = record {
 }
 
 pub table_written : (plans : List Plan) (how : Reading) (width : ℕ) (text rest : List ℕ) (header titles : List (List ℕ)) (before now after : List ℕ) → RowsReadBack
-    → IsFirstRecord how.separator text header rest → 0 < length text → width ≡ length header → length header ≤ length plans → AreTitled plans header (length plans) titles
-    → 0 < length titles → now ≡ before ++ row_bytes titles → PutsRows plans (record how { width = width }) rest now after → IsWrittenFor plans how text before after
-table_written plans how width text rest header titles before now after law first long wide named titled some e puts = λ kept text_is none.
+    → IsFirstRecord how.separator (map (exchanged how.separator) text) header rest → 0 < length (map (exchanged how.separator) text) → width ≡ length header
+    → length header ≤ length plans → AreTitled plans header (length plans) titles → 0 < length titles → now ≡ before ++ row_bytes titles
+    → PutsRows plans (record how { width = width }) rest now after → IsWrittenFor plans how text before after
+table_written plans how width text rest header titles before now after law first long wide named titled some e puts = λ none.
     record {
       header = header;
       rows = said how.separator puts.records;
       read = record {
         records = first.fields ∷ puts.records;
-        are = subst (λ (l : List ℕ). AreRecords l (first.fields ∷ puts.records)) text_is (first_more how.separator text header rest first long puts.records puts.are);
+        are = first_more how.separator (map (exchanged how.separator) text) header rest first long puts.records puts.are;
         cells_are = ap (λ (l : List (List ℕ)). l ∷ said how.separator puts.records) first.cells_are;
       };
       titles = titles;

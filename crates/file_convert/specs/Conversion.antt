@@ -1,9 +1,10 @@
 -- A file and what is written in its place.
 use Rattle.std.specs.Prelude.{◌≡◌, ◌⊎◌, ℕ, ◌≤◌, ◌<◌, Bool, true, false, List, [], ◌∷◌, ◌++◌, length, map}
 use Rattle.csv_grammar.specs.Records.{Field, AreRecords}
-use Rattle.csv_records.specs.Exchange.{Exchange, exchanged, exchanged_content}
+use Rattle.csv_records.specs.Exchange.{Exchange, exchanged_content}
 use Rattle.csv_records.specs.Lines.{after_lines, with_feeds}
 use Rattle.csv_records.specs.Written.{AreRows, HaveCells, row_bytes, rows_bytes}
+use Rattle.text_encodings.specs.declared.encoding.Encoding.{Encoding}
 use Rattle.text_encodings.specs.Encodings.{IsTextIn}
 use Rattle.file_convert.specs.declared.asks.ConvertOptions.{ConvertOptions}
 use Rattle.file_convert.specs.declared.report.Converted.{Converted}
@@ -36,6 +37,12 @@ pub record IsConvertedTable (plans : List Plan) (pads : Bool) (separator : ℕ) 
   pub converted : AreConverted plans pads (length header) rows outs
   pub written : AreRows bytes (titles ∷ outs)
 
+-- the bytes of a file are a text, here with line feeds
+pub record IsSource (file : List ℕ) (encoding : Encoding) (fed : List ℕ) : Type 0 where
+  pub text : List ℕ
+  pub decoded : IsTextIn encoding file text
+  pub is_fed : fed ≡ with_feeds false text
+
 -- the bytes of a file are a text, and what is written is its table
 pub record IsConversion (asks : ConvertOptions) (file : List ℕ) (made : Converted) : Type 0 where
   pub text : List ℕ
@@ -62,4 +69,4 @@ pub record PutsRows (plans : List Plan) (how : Reading) (text before after : Lis
 -- and for a whole text, if nothing was before
 abbrev pub IsWrittenFor : List Plan → Reading → List ℕ → List ℕ → List ℕ → Type 0
 IsWrittenFor plans how text before after =
-    (kept : List ℕ) → text ≡ map (exchanged how.separator) kept → before ≡ [] → IsConvertedTable plans how.pads how.separator kept after
+    before ≡ [] → IsConvertedTable plans how.pads how.separator text after

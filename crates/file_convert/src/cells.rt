@@ -1,10 +1,11 @@
 //! The cells of a record.
 ghost use Rattle.std.specs.Prelude.{◌≡◌, ◌==◌, ◌&&◌, IfOk, [], ◌∷◌, length, map, slice_index_or};
-ghost use Rattle.csv_records.specs.Exchange.{IsFirstRecord};
+ghost use Rattle.std.specs.Cow.{cow_slice_items};
+ghost use Rattle.csv_records.specs.Exchange.{IsFirstRecord, exchanged};
 ghost use Rattle.file_convert.specs.Rows.{is_empty_line, nth_cell};
 
 use crate::fault::ConvertFault;
-use csv_records::{Record, RecordFault, read_record};
+use csv_records::{Record, RecordCell, RecordFault, read_record};
 use std::alloc::Global;
 
 /// Returns the record at the front of a text that is not empty; or why there is none, with its line.
@@ -14,8 +15,8 @@ pub(crate) fn record_at(
     text: &[u8],
     line: usize,
 ) -> Result<Record<'_>, ConvertFault>
-    ensures { IfOk result (λ read. IsFirstRecord separator text.now
-        (map (λ cell. cell.items) read.cells.items) read.rest.now) }
+    ensures { IfOk result (λ read. IsFirstRecord separator (map (exchanged separator) text.now)
+        (map cow_slice_items read.cells.items) (map (exchanged separator) read.rest.now)) }
 {
     match read_record(alloc, separator, text) {
         Ok(read) => Ok(read),
@@ -25,8 +26,8 @@ pub(crate) fn record_at(
 }
 
 /// Returns a cell of a record by its number; an empty one after the last.
-pub(crate) fn cell_at(cells: &[Vec<u8>], place: usize) -> &[u8]
-    ensures { result.now ≡ nth_cell (map (λ cell. cell.items) cells.now) place }
+pub(crate) fn cell_at<'a>(cells: &'a [RecordCell<'_>], place: usize) -> &'a [u8]
+    ensures { result.now ≡ nth_cell (map cow_slice_items cells.now) place }
 {
     match cells.get(place) {
         Some(cell) => cell.as_slice(),
@@ -35,11 +36,11 @@ pub(crate) fn cell_at(cells: &[Vec<u8>], place: usize) -> &[u8]
 }
 
 /// Returns true if cells are one that is empty, as an empty line has it.
-pub(crate) fn is_blank(cells: &[Vec<u8>]) -> bool
-    ensures { result ≡ is_empty_line (map (λ cell. cell.items) cells.now) }
+pub(crate) fn is_blank(cells: &[RecordCell<'_>]) -> bool
+    ensures { result ≡ is_empty_line (map cow_slice_items cells.now) }
 {
     match cells {
-        [cell] => cell.is_empty(),
+        [cell] => cell.as_slice().is_empty(),
         _ => false,
     }
 }

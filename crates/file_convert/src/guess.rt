@@ -5,6 +5,7 @@ use crate::report::ColumnReport;
 use column_forms::null_place;
 use csv_records::push_row;
 use std::alloc::Global;
+use std::borrow::CowSlice;
 
 /// Returns true if a text that a draft does not know stands for null in a column.
 fn has_guess(column: &ColumnReport) -> bool {
@@ -31,7 +32,7 @@ pub(crate) fn guess_text(
         let mut cells = read.cells;
         for cell in &mut cells {
             if matches!(null_place(cell.as_slice()), Some(2 | 7)) {
-                cell.clear();
+                *cell = CowSlice::Borrowed(&[]);
             }
         }
         push_row(&mut guess, cells.as_slice())?;

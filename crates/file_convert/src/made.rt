@@ -1,12 +1,14 @@
 //! What is written for a cell.
-ghost use Rattle.std.specs.Prelude.{◌≡◌, ◌++◌, IfOk, OnOk, map, option_map};
+ghost use Rattle.std.specs.Prelude.{◌≡◌, ◌++◌, [], IfOk, OnOk, map, option_map, unwrap_or};
+ghost use Rattle.std.specs.Cow.{cow_slice_items};
 ghost use Rattle.value_forms.specs.Forms.{cell_made};
 ghost use Rattle.file_convert.specs.Rows.{IsMadeIn, has_time, is_dropped, out_cells, rounding, title_cells};
 
 use crate::report::ReportKind;
 use column_forms::{is_plain, null_place, seen_text};
-use csv_records::push_cell;
+use csv_records::{RecordCell, push_cell};
 use std::alloc::{AllocError, Global};
+use std::borrow::CowSlice;
 use value_forms::{Form, Made, NumberForm, made_by};
 
 /// The end of the name of a column with the times of day of another.
@@ -62,50 +64,59 @@ pub(crate) fn made_in(
     made_by(alloc, rounding(rounds, form), text.as_slice())
 }
 
+/// Returns the cell of a time of day; an empty one if there is none.
+fn time_cell<'a>(time: Option<Vec<u8>>) -> RecordCell<'a>
+    ensures { cow_slice_items result ≡ unwrap_or (option_map (λ time. time.items) time) [] }
+{
+    match time {
+        Some(time) => CowSlice::Owned(time),
+        None => CowSlice::Borrowed(&[]),
+    }
+}
+
 /// Appends what is written for a cell: its value, or the cell as it is, and a time of day.
-pub(crate) fn push_made(
-    alloc: Global,
-    row: &mut Vec<Vec<u8>>,
+pub(crate) fn push_made<'a>(
+    row: &mut Vec<RecordCell<'a>>,
     kind: ReportKind,
-    cell: &[u8],
+    cell: &'a [u8],
     made: Option<Made>,
 ) -> Result<(), AllocError>
-    ensures { OnOk result (map (λ cell. cell.items) row.new.items
-        ≡ map (λ cell. cell.items) row.old.items
+    ensures { OnOk result (map cow_slice_items row.new.items
+        ≡ map cow_slice_items row.old.items
         ++ out_cells kind cell.now (option_map cell_made made)) }
 {
     if is_dropped(kind) {
         return Ok(());
     }
     let (text, time) = match made {
-        Some(made) => (made.text, made.time),
-        None => (Vec::from_slice(alloc, cell)?, None),
+        Some(made) => (CowSlice::Owned(made.text), made.time),
+        None => (CowSlice::Borrowed(cell), None),
     };
     push_cell(row, text)?;
     if has_time(kind) {
-        push_cell(row, time.unwrap_or(Vec::new(alloc)))?;
+        push_cell(row, time_cell(time))?;
     }
     Ok(())
 }
 
 /// Appends the header cells of a column.
-pub(crate) fn push_titles(
+pub(crate) fn push_titles<'a>(
     alloc: Global,
-    row: &mut Vec<Vec<u8>>,
+    row: &mut Vec<RecordCell<'a>>,
     kind: ReportKind,
-    title: &[u8],
+    title: &'a [u8],
 ) -> Result<(), AllocError>
-    ensures { OnOk result (map (λ cell. cell.items) row.new.items
-        ≡ map (λ cell. cell.items) row.old.items ++ title_cells kind title.now) }
+    ensures { OnOk result (map cow_slice_items row.new.items
+        ≡ map cow_slice_items row.old.items ++ title_cells kind title.now) }
 {
     if is_dropped(kind) {
         return Ok(());
     }
-    push_cell(row, Vec::from_slice(alloc, title)?)?;
+    push_cell(row, CowSlice::Borrowed(title))?;
     if has_time(kind) {
         let mut name = Vec::from_slice(alloc, title)?;
         name.extend_from_slice(TIME)?;
-        push_cell(row, name)?;
+        push_cell(row, CowSlice::Owned(name))?;
     }
     Ok(())
 }

@@ -6,6 +6,7 @@ use crate::report::{ColumnReport, ReportKind};
 use crate::sight::Sight;
 use column_forms::{CellsSeen, Choice, Point, Wants, choice_of, point_of};
 use std::alloc::{AllocError, Global};
+use std::str::from_utf8;
 
 /// Returns which point the numbers of a file have, if its columns agree.
 fn file_point(columns: &[CellsSeen]) -> Point {
@@ -26,15 +27,17 @@ fn is_empty(seen: &CellsSeen) -> bool {
     seen.cells == 0 && seen.nulls.as_slice().iter().all(|count| *count == 0)
 }
 
-/// Returns a report of a column in which nothing is changed yet.
+/// Returns a report of a column by what is found in it and asked for. Nothing is changed in it yet.
 fn report_of(
     alloc: Global,
-    title: Vec<u8>,
+    title: &[u8],
     kind: ReportKind,
     seen: &CellsSeen,
+    wants: Wants<'_>,
 ) -> Result<ColumnReport, AllocError> {
-    Ok(ColumnReport {
-        title,
+    let is_open = matches!(kind, ReportKind::TwoPoints | ReportKind::TwoOrders);
+    let mut report = ColumnReport {
+        title: Vec::new(alloc),
         kind,
         changed: 0,
         line: 0,
@@ -43,13 +46,19 @@ fn report_of(
         fine: 0,
         fine_line: 0,
         difference: 0,
-        rounds: false,
-        nulls: Vec::from_slice(alloc, seen.nulls.as_slice())?,
+        rounds: wants.round,
+        nulls: Vec::new(alloc),
         asked_null: None,
         asked_cells: 0,
-        is_text: false,
+        is_text: wants.text || is_open,
         place: 0,
-    })
+    };
+    report.title.extend_from_slice(title)?;
+    report.nulls.extend_from_slice(seen.nulls.as_slice())?;
+    if let Some(text) = wants.null {
+        report.asked_null = Some(Vec::from_slice(alloc, text.as_bytes())?);
+    }
+    Ok(report)
 }
 
 /// Returns what is found in a column.
@@ -66,26 +75,17 @@ fn kind_of(seen: &CellsSeen, wants: Wants<'_>, file: Point, separator: u8) -> Re
 pub(crate) fn reports_of(
     alloc: Global,
     asks: &ConvertOptions<'_>,
-    sight: &Sight,
+    sight: &Sight<'_>,
     separator: u8,
 ) -> Result<Vec<ColumnReport>, AllocError> {
     let columns = sight.columns.as_slice();
     let file = file_point(columns);
     let mut reports = Vec::new(alloc);
     for (place, seen) in columns.iter().enumerate() {
-        let title = Vec::from_slice(alloc, cell_at(sight.titles.as_slice(), place))?;
-        let name = std::str::from_utf8(title.as_slice()).unwrap_or("");
-        let wants = asks.wants(name);
+        let title = cell_at(sight.titles.as_slice(), place);
+        let wants = asks.wants(from_utf8(title).unwrap_or(""));
         let kind = kind_of(seen, wants, file, separator);
-        let null = match wants.null {
-            Some(text) => Some(Vec::from_slice(alloc, text.as_bytes())?),
-            None => None,
-        };
-        let mut report = report_of(alloc, title, kind, seen)?;
-        report.asked_null = null;
-        report.rounds = wants.round;
-        report.is_text = wants.text
-            || matches!(kind, ReportKind::TwoPoints | ReportKind::TwoOrders);
+        let report = report_of(alloc, title, kind, seen, wants)?;
         reports.push(report).or(Err(AllocError))?;
     }
     drop_columns(columns, reports.as_mut_slice());

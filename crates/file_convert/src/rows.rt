@@ -1,22 +1,18 @@
 //! The rows of a table as they are written.
 ghost use Rattle.std.specs.Prelude.{◌≡◌, IfOk, length, map};
+ghost use Rattle.std.specs.Cow.{cow_slice_items};
 ghost use Rattle.file_convert.specs.Rows.{AppendsCells, AreTitled, AreWritten, plan_of};
 
 use crate::cells::cell_at;
 use crate::made::{made_in, push_made, push_titles};
 use crate::report::{ColumnReport, ReportKind};
+use csv_records::RecordCell;
 use std::alloc::{AllocError, Global};
 use value_forms::{Form, Made, rounded_text};
 
 impl ColumnReport {
     /// Counts a cell that is changed.
-    fn count(
-        &mut self,
-        alloc: Global,
-        line: usize,
-        cell: &[u8],
-        made: &Made,
-    ) -> Result<(), AllocError>
+    fn count(&mut self, line: usize, cell: &[u8], made: &Made) -> Result<(), AllocError>
         ensures { plan_of self.new ≡ plan_of self.old }
     {
         if made.text.as_slice() == cell && made.time.is_none() {
@@ -24,8 +20,8 @@ impl ColumnReport {
         }
         if self.changed == 0 {
             self.line = line;
-            self.before = Vec::from_slice(alloc, cell)?;
-            self.after = Vec::from_slice(alloc, made.text.as_slice())?;
+            self.before.extend_from_slice(cell)?;
+            self.after.extend_from_slice(made.text.as_slice())?;
         }
         self.changed = self.changed.saturating_add(1);
         Ok(())
@@ -73,7 +69,7 @@ impl ColumnReport {
             }
             return Ok(());
         };
-        self.count(alloc, line, cell, made)?;
+        self.count(line, cell, made)?;
         if made.difference > 0 {
             self.add_fine(line, made.difference);
         } else if self.is_number() {
@@ -94,36 +90,36 @@ impl ColumnReport {
     }
 
     /// Appends what the column writes for a cell to a row, and counts what is changed.
-    fn write(
+    fn write<'a>(
         &mut self,
         alloc: Global,
-        row: &mut Vec<Vec<u8>>,
+        row: &mut Vec<RecordCell<'a>>,
         line: usize,
-        cell: &[u8],
+        cell: &'a [u8],
     ) -> Result<(), AllocError>
         ensures plan { plan_of self.new ≡ plan_of self.old }
         ensures cells { IfOk result (λ _. AppendsCells (plan_of self.old) cell.now
-            (map (λ cell. cell.items) row.old.items) (map (λ cell. cell.items) row.new.items)) }
+            (map cow_slice_items row.old.items) (map cow_slice_items row.new.items)) }
     {
         let kind = self.kind;
         self.note_null(cell);
         let made = made_in(alloc, kind, self.rounds, cell)?;
         self.note(alloc, line, cell, &made)?;
-        push_made(alloc, row, kind, cell, made)
+        push_made(row, kind, cell, made)
     }
 }
 
 /// Returns the row that the columns write for the cells of a record.
-pub(crate) fn row_of(
+pub(crate) fn row_of<'a>(
     alloc: Global,
     reports: &mut [ColumnReport],
     line: usize,
-    cells: &[Vec<u8>],
-) -> Result<Vec<Vec<u8>>, AllocError>
+    cells: &'a [RecordCell<'_>],
+) -> Result<Vec<RecordCell<'a>>, AllocError>
     ensures plans { map plan_of reports.new ≡ map plan_of reports.old }
     ensures row { IfOk result (λ row. AreWritten (map plan_of reports.old)
-        (map (λ cell. cell.items) cells.now) (length reports.old)
-        (map (λ cell. cell.items) row.items)) }
+        (map cow_slice_items cells.now) (length reports.old)
+        (map cow_slice_items row.items)) }
 {
     let mut row = Vec::new(alloc);
     for (place, report) in reports.iter_mut().enumerate() {
@@ -133,14 +129,14 @@ pub(crate) fn row_of(
 }
 
 /// Returns the header that the columns write.
-pub(crate) fn header_of(
+pub(crate) fn header_of<'a>(
     alloc: Global,
     reports: &[ColumnReport],
-    titles: &[Vec<u8>],
-) -> Result<Vec<Vec<u8>>, AllocError>
+    titles: &'a [RecordCell<'_>],
+) -> Result<Vec<RecordCell<'a>>, AllocError>
     ensures { IfOk result (λ row. AreTitled (map plan_of reports.now)
-        (map (λ cell. cell.items) titles.now) (length reports.now)
-        (map (λ cell. cell.items) row.items)) }
+        (map cow_slice_items titles.now) (length reports.now)
+        (map cow_slice_items row.items)) }
 {
     let mut row = Vec::new(alloc);
     for (place, report) in reports.iter().enumerate() {

@@ -1,38 +1,37 @@
-//! The text that is read in the place of a file: without the lines before its header, with line feeds, and with the comma and its separator exchanged.
-ghost use Rattle.std.specs.Prelude.{◌≡◌, IfOk, map, string_bytes};
-ghost use Rattle.csv_records.specs.Exchange.{exchanged};
-ghost use Rattle.file_convert.specs.Conversion.{kept_text};
+//! The text that is read in the place of a file.
+ghost use Rattle.std.specs.Prelude.{IfOk};
+ghost use Rattle.file_convert.specs.Conversion.{IsSource};
 
-use crate::separator::separator_of;
-use csv_records::{after_lines, exchanged_text, with_line_feeds};
-use std::alloc::{AllocError, Global};
+use crate::fault::ConvertFault;
+use csv_records::with_line_feeds;
+use std::alloc::Global;
+use text_encodings::{Encoding, text_of};
 
 /// What a file is read as.
 #[derive(Drop)]
 pub(crate) struct Source {
-    /// The text, in which the comma and the separator are exchanged.
+    pub(crate) encoding: Encoding,
+    /// Its text with line feeds.
     pub(crate) text: Vec<u8>,
-    pub(crate) separator: u8,
     /// How many line breaks are a CR alone.
     pub(crate) returns: usize,
 }
 
-/// Returns what a text is read as, without its first lines.
-pub(crate) fn source_of(
-    alloc: Global,
-    skip_lines: usize,
-    text: String,
-) -> Result<Source, AllocError>
-    ensures { IfOk result (λ source. source.text.items
-        ≡ map (exchanged source.separator) (kept_text skip_lines (string_bytes text))) }
+/// Returns what a file is read as.
+pub(crate) fn source_of(alloc: Global, bytes: Vec<u8>) -> Result<Source, ConvertFault>
+    ensures { IfOk result (λ source. IsSource bytes.items source.encoding source.text.items) }
 {
-    let (fed, returns) = with_line_feeds(alloc, text.as_bytes())?;
-    drop(text);
-    let kept = after_lines(fed.as_slice(), skip_lines);
-    let separator = separator_of(kept);
+    let decoded = text_of(alloc, bytes.as_slice())?;
+    drop(bytes);
+    let text = decoded.text.as_bytes();
+    if text.contains(&0) {
+        return Err(ConvertFault::NoText);
+    }
+    let fed = with_line_feeds(alloc, text)?;
+    let encoding = decoded.encoding;
     Ok(Source {
-        text: exchanged_text(alloc, separator, kept)?,
-        separator,
-        returns,
+        encoding,
+        text: fed.0,
+        returns: fed.1,
     })
 }

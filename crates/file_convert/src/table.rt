@@ -1,5 +1,6 @@
 //! A table as it is written.
 ghost use Rattle.std.specs.Prelude.{◌≡◌, ◌++◌, IfOk, OnOk, length, map};
+ghost use Rattle.std.specs.Cow.{cow_slice_items};
 ghost use Rattle.csv_records.specs.Exchange.{exchanged};
 ghost use Rattle.csv_records.specs.Written.{row_bytes};
 ghost use Rattle.file_convert.specs.Conversion.{IsWrittenFor, PutsRow, PutsRows};
@@ -9,7 +10,7 @@ use crate::cells::{is_blank, lines_before, record_at};
 use crate::fault::ConvertFault;
 use crate::report::ColumnReport;
 use crate::rows::{header_of, row_of};
-use csv_records::{push_row, rows_read_back};
+use csv_records::{RecordCell, push_row, rows_read_back};
 use std::alloc::{AllocError, Global};
 
 /// What is written so far.
@@ -29,9 +30,9 @@ pub(crate) struct Reading {
 
 impl Output {
     /// Writes a row.
-    fn put(&mut self, row: &[Vec<u8>]) -> Result<(), AllocError>
+    fn put(&mut self, row: &[RecordCell<'_>]) -> Result<(), AllocError>
         ensures { OnOk result (self.new.bytes.items
-            ≡ self.old.bytes.items ++ row_bytes (map (λ cell. cell.items) row.now)) }
+            ≡ self.old.bytes.items ++ row_bytes (map cow_slice_items row.now)) }
     {
         push_row(&mut self.bytes, row)
     }
@@ -49,11 +50,11 @@ fn put_row(
     reports: &mut [ColumnReport],
     how: Reading,
     line: usize,
-    cells: &[Vec<u8>],
+    cells: &[RecordCell<'_>],
 ) -> Result<(), ConvertFault>
     ensures plans { map plan_of reports.new ≡ map plan_of reports.old }
     ensures row { IfOk result (λ _. PutsRow (map plan_of reports.old) how
-        (map (λ cell. cell.items) cells.now) out.old.bytes.items out.new.bytes.items) }
+        (map cow_slice_items cells.now) out.old.bytes.items out.new.bytes.items) }
 {
     if how.width > 1 && is_blank(cells) {
         return Ok(());
@@ -77,8 +78,8 @@ fn put_rows(
     first_line: usize,
 ) -> Result<(), ConvertFault>
     ensures plans { map plan_of reports.new ≡ map plan_of reports.old }
-    ensures rows { IfOk result (λ _. PutsRows (map plan_of reports.old) how text.now
-        out.old.bytes.items out.new.bytes.items) }
+    ensures rows { IfOk result (λ _. PutsRows (map plan_of reports.old) how
+        (map (exchanged how.separator) text.now) out.old.bytes.items out.new.bytes.items) }
 {
     let mut left = text;
     let mut line = first_line;
@@ -91,7 +92,7 @@ fn put_rows(
     Ok(())
 }
 
-/// Writes the table of a text in which the comma and the separator are exchanged, whose first line has a number.
+/// Writes the table of a text whose first line has a number.
 pub(crate) fn write_table(
     mut out: Output,
     reports: &mut [ColumnReport],

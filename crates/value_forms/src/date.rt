@@ -212,6 +212,21 @@ fn day_of_parts(
     day_of(alloc, year, month, day)
 }
 
+/// Returns true if a text is a day of the calendar in a form.
+pub(crate) fn is_day(form: DayForm, text: &[u8]) -> bool {
+    let (first, rest) = parts(form.separator, text);
+    let (second, third) = parts(form.separator, rest);
+    let (year, month, day) = in_order(form.order, first, second, third);
+    let month = month_number(form.is_named, month);
+    let day = short_number(digits_of_day(form.is_named, day));
+    match (year_number(year), month, day) {
+        (Some(year), Some(month), Some(day)) => {
+            rest.contains(&form.separator) && is_date(year, month, day)
+        }
+        _ => false,
+    }
+}
+
 /// Returns the day that a text is in a form, as `yyyy-MM-dd`; `None` if it is none of the calendar.
 #[tactic(auto, unfolding(crate::specs::Dates::form_day))]
 pub fn day_text(alloc: Global, form: DayForm, text: &[u8]) -> Result<Option<Vec<u8>>, AllocError>

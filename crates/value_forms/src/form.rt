@@ -96,7 +96,7 @@ fn scaled_text(
 }
 
 /// Returns a text without the currency of its form; `None` if it has another one.
-fn bare_text<'a>(unit: Option<Unit<'_>>, text: &'a [u8]) -> Option<&'a [u8]>
+pub(crate) fn bare_text<'a>(unit: Option<Unit<'_>>, text: &'a [u8]) -> Option<&'a [u8]>
     ensures { option_map (λ bare. bare.now) result ≡ bare_number unit.entry text.now }
 {
     match unit {

@@ -5,6 +5,7 @@
 
 mod date;
 mod decimal;
+mod fits;
 mod form;
 mod laws;
 mod number;
@@ -15,6 +16,7 @@ mod truth;
 mod unit;
 
 pub use date::{DateOrder, DayForm, day_text};
+pub use fits::is_of_form;
 pub use form::{Form, Made, NumberForm, Scale, made_by};
 pub use laws::{rounds_half_to_even, worked_dates, worked_numbers, worked_truths};
 pub use number::{Marks, number_text};

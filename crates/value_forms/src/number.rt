@@ -31,7 +31,7 @@ fn is_grouped(group: u8, whole: &[u8]) -> bool
 }
 
 /// Returns true if a text is the digits before a decimal point, with a mark between thousands or with none.
-fn is_whole(group: u8, whole: &[u8]) -> bool
+pub(crate) fn is_whole(group: u8, whole: &[u8]) -> bool
     ensures { result ≡ is_whole group whole.now }
 {
     match whole {

@@ -105,7 +105,7 @@ fn few(digits: &[u8]) -> Option<u8>
 }
 
 /// Returns by how many digits an exponent moves the point to the left, and to the right. One without a sign moves it only if `has_point` says that its number has a point.
-fn exponent_moves(has_point: bool, exponent: &[u8]) -> Option<(u8, u8)>
+pub(crate) fn exponent_moves(has_point: bool, exponent: &[u8]) -> Option<(u8, u8)>
     ensures { result ≡ exponent_moves has_point exponent.now }
 {
     match exponent {
@@ -127,7 +127,7 @@ fn letter_place(text: &[u8]) -> usize
 }
 
 /// Returns the number before an `e`, and the exponent after it.
-fn cut_at_letter(text: &[u8]) -> Option<(&[u8], &[u8])>
+pub(crate) fn cut_at_letter(text: &[u8]) -> Option<(&[u8], &[u8])>
     ensures found { is_some result ≡ nat_lt (letter_place text.now) (length text.now) }
     ensures parts { IfSome result (λ cut. (cut.0.now ≡ before_first is_letter text.now)
         × (cut.1.now ≡ after_first is_letter text.now)) }

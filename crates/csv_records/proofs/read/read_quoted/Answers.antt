@@ -1,10 +1,7 @@
-use Rattle.std.proofs.Common.{◌∙◌, ◌++◌, ℕ, List, ap, map, sym}
-use Rattle.csv_grammar.specs.Records.{doubled}
-use Rattle.csv_records.specs.Exchange.{exchanged}
-use Rattle.csv_records.proofs.ReadLemmas.{inside_more}
+use Rattle.csv_records.proofs.FrontLemmas.{quoted_front}
 use Rattle.csv_records.proofs.read.read_quoted.Goals as goal
 
-pub loop-byte-preserved : goal.loop-byte-preserved
-loop-byte-preserved c =
-    inside_more c.args.separator c.in-Some.byte c.loop-byte.cell.items c.args.text.now c.loop-byte.left.now c.in-Some.rest.now c.loop-byte.invariant c.in-Some.ensures
-    ∙ ap (λ (l : List ℕ). doubled (map (exchanged c.args.separator) l) ++ c.in-Some.rest.now) (sym c.in_ok-push_exchanged.ensures)
+pub returns : goal.returns
+returns c =
+    quoted_front c.args.separator c.args.text.now c.split_at.result.0.now c.split_at.result.1.now c.in-Some.rest.now c.quote_len.result c.in-Some._quote
+    c.quote_len.ensures.place c.split_at.ensures.front c.split_at.ensures.back c.in-Some.ensures

@@ -1,4 +1,5 @@
 use Rattle.std.proofs.Common.{◌≡◌, map}
+use Rattle.std.specs.Cow.{cow_slice_items}
 use Rattle.file_convert.specs.Rows.{AreWritten, plan_of}
 use Rattle.file_convert.proofs.rows.row_of.Given as goal
 
@@ -6,5 +7,5 @@ use Rattle.file_convert.proofs.rows.row_of.Given as goal
 abbrev pub invariant-loop-place : goal.invariant-loop-place
 invariant-loop-place l = record {
   plans : map plan_of l.reports ≡ map plan_of l.initial.reports;
-  row : AreWritten (map plan_of l.initial.reports) (map (λ cell. cell.items) l.cells) l.place (map (λ cell. cell.items) l.row.items);
+  row : AreWritten (map plan_of l.initial.reports) (map cow_slice_items l.cells) l.place (map cow_slice_items l.row.items);
 }
