@@ -1,4 +1,4 @@
--- The cells of more rows, and of a file.
+-- Crates above may cite this file. The cells of more rows, and of a file.
 use Rattle.std.proofs.Common.{◌≡◌, ◌≢◌, ℕ, ◌+◌, ◌^◌, ◌≤◌, inl, inr, List, [], ◌∷◌, ◌++◌, length, length-append, map, None, Some, IfOk, IfErr, Result, Ok, Err, Vec, sym, ap, ◌∙◌, subst, arith}
 use Rattle.std.specs.List.{AllByRecursion}
 use Rattle.std.proofs.lemmas.List.{length-map, map-append}
@@ -35,12 +35,12 @@ from_zero n = omega arith
 
 pub cells_joined : (columns : List ColumnOf) (raw : RawTable) (rows : List (List RawField)) (readers new : List ReaderOf) → HasReadCells columns raw readers
     → wrong_of (length raw.rows) columns rows ≡ None
-    → ((before : List (List CellValue)) → HaveRead most_rows columns before readers → HaveRead most_rows columns (before ++ rows_in columns rows) new)
+    → HaveRead most_rows columns (rows_in columns raw.rows ++ rows_in columns rows) new
     → HasReadCells columns (with_rows raw rows) new
 cells_joined columns raw rows readers new has right read = record {
   header_matches = has.header_matches;
   right = wrong_append 0 columns raw.rows rows has.right ∙ (ap (λ n. wrong_of n columns rows) (from_zero (length raw.rows)) ∙ right);
-  read = subst (λ rs. HaveRead most_rows columns rs new) (sym (map-append (values_in columns) raw.rows rows)) (read (rows_in columns raw.rows) has.read);
+  read = subst (λ rs. HaveRead most_rows columns rs new) (sym (map-append (values_in columns) raw.rows rows)) read;
 }
 
 pub bad_joined : (columns : List ColumnOf) (raw : RawTable) (rows : List (List RawField)) (readers : List ReaderOf) (bad : BadCell) → HasReadCells columns raw readers

@@ -1,4 +1,4 @@
--- A window more of a file, and the rest of it.
+-- Crates above may cite this file. A window more of a file, and the rest of it.
 use Rattle.std.proofs.Common.{◌≡◌, ℕ, ◌+◌, ◌≤◌, List, ◌++◌, length, take, Option, None, Some, IfSome, refl, sym, subst, append-nil, arith}
 use Rattle.csv_grammar.specs.Files.{FileCause, IsFileFault}
 use Rattle.csv_grammar.specs.Raw.{RawTable}

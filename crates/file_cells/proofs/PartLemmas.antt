@@ -1,8 +1,8 @@
--- The rows of a part, by its columns and row by row.
-use Rattle.std.proofs.Common.{◌≡◌, ◌<◌, ◌≤◌, inl, inr, ℕ, zero, suc, ◌+◌, ◌-◌, List, [], ◌∷◌, ◌++◌, length, length-drop, map, drop, take, take-append-drop, min, get_or, Some, None, IfSome, Result, Ok, Err, slice_get, set, refl, ap, sym, subst, ◌∙◌, arith}
+-- Crates above may cite this file. The rows of a part, by its columns and row by row.
+use Rattle.std.proofs.Common.{◌≡◌, ◌<◌, ◌≤◌, inl, inr, ℕ, zero, suc, ◌+◌, ◌-◌, List, [], ◌∷◌, ◌++◌, length, length-drop, length-append, append-nil, append_assoc, map, drop, take, take-append-drop, min, get_or, Some, None, IfSome, Result, Ok, Err, slice_get, set, refl, ap, sym, subst, ◌∙◌, arith}
 use Rattle.std.proofs.lemmas.Bool.{cases_order}
 use Rattle.std.proofs.lemmas.List.{drop_at, drop-drop, length-map, length-take, map-append, take_at}
-use Rattle.std.proofs.lemmas.Option.{same_Some, slice_get-get_or}
+use Rattle.std.proofs.lemmas.Option.{same_Some, slice_get-get_or, slice_get_within}
 use Rattle.std.specs.Result.{result_err}
 use Rattle.block_summary.specs.Ranges.{column_of}
 use Rattle.cell_types.specs.declared.fault.CellFault.{CellFault}
@@ -111,6 +111,41 @@ part_read_on total columns rows readers new part have on = record {
       ∙ sym (map-append (λ values. get_or values col null) rows (rows_in columns part)));
 }
 
+-- the readers have read no rows, or more rows after others
+pub part_none : (columns : List ColumnOf) (readers : List ReaderOf) → ArePartReadOn columns [] readers readers
+part_none columns readers = record {
+  count = refl;
+  each = λ col column reader at is. is ∙ ap (λ cells. Some (record reader { cells = cells })) (sym (append-nil reader.cells));
+}
+
+pub part_more : (columns : List ColumnOf) (rows more : List (List RawField)) (readers mid new : List ReaderOf)
+    → ArePartReadOn columns rows readers mid → ArePartReadOn columns more mid new → ArePartReadOn columns (rows ++ more) readers new
+part_more columns rows more readers mid new one two = record {
+  count = two.count ∙ one.count;
+  each = λ col column reader at is.
+      two.each col column (with_cells reader (part_cells column col rows)) at (one.each col column reader at is)
+      ∙ ap (λ cells. Some (record reader { cells = cells }))
+      (append_assoc reader.cells (part_cells column col rows) (part_cells column col more)
+      ∙ ap (λ cells. reader.cells ++ cells) (sym (map-append (λ fields. field_cell column (slice_get fields col)) rows more)));
+}
+
+-- they have room for the others
+pub part_room : (columns : List ColumnOf) (rows : List (List RawField)) (readers new : List ReaderOf) (total more : ℕ)
+    → HavePartReaders columns readers total → ArePartReadOn columns rows readers new → length rows + more ≤ total → HavePartReaders columns new more
+part_room columns rows readers new total more have on room = record {
+  count = on.count ∙ have.count;
+  each = λ col column reader at is.
+      let old : ReaderOf = get_or readers col reader in
+      let there : slice_get readers col ≡ Some old = slice_get-get_or readers col reader (omega (arith, slice_get_within new col reader is, on.count)) in
+      let had = have.each col column old at there in
+      let cells = part_cells column col rows in
+      let here : HasPartReader column (with_cells old cells) more = record {
+        kind = had.kind;
+        room = omega (arith, had.room, room, length-append old.cells cells, length-map rows (λ fields. field_cell column (slice_get fields col)));
+      } in
+      subst (λ r. HasPartReader column r more) (same_Some (with_cells old cells) reader (sym (on.each col column old at there) ∙ is)) here;
+}
+
 -- the readers of the columns so far, and of one more
 pub part_put : (columns : List ColumnOf) (part : List (List RawField)) (old new : List ReaderOf) (col : ℕ) (reader : ReaderOf) → col < length new
     → ((k : ℕ) (column : ColumnOf) (was : ReaderOf) → k < col → slice_get columns k ≡ Some column → slice_get old k ≡ Some was
@@ -195,16 +230,15 @@ has_part rows was part left first most within some is e f =
     }
 
 -- the rows before it, and its own
-pub rows_more : (columns : List ColumnOf) (rows part left : List (List RawField)) (first : ℕ) → drop first rows ≡ part ++ left → first ≤ length rows
-    → take (first + length part) (rows_in columns rows) ≡ take first (rows_in columns rows) ++ rows_in columns part
-rows_more columns rows part left zero e within =
+pub rows_more : (rows part left : List (List RawField)) (first : ℕ) → drop first rows ≡ part ++ left → first ≤ length rows
+    → take (first + length part) rows ≡ take first rows ++ part
+rows_more rows part left zero e within =
     let front : 0 + length part ≡ length part = omega arith in
-    rw front (ap (λ rs. take (length part) (rows_in columns rs)) e ∙ ap (take (length part)) (map-append (values_in columns) part left)
-    ∙ take_at (rows_in columns part) (rows_in columns left) (length part) (length-rows_in columns part))
-rows_more columns [] part left (suc first) e within = absurd (omega arith)
-rows_more columns (fields ∷ rows) part left (suc first) e within =
+    rw front (ap (take (length part)) e ∙ take_at part left (length part) refl)
+rows_more [] part left (suc first) e within = absurd (omega arith)
+rows_more (fields ∷ rows) part left (suc first) e within =
     let more : suc first + length part ≡ suc (first + length part) = omega arith in
-    rw more (ap (λ rs. values_in columns fields ∷ rs) (rows_more columns rows part left first e (omega arith)))
+    rw more (ap (λ rs. fields ∷ rs) (rows_more rows part left first e (omega arith)))
 
 -- ---- rows after rows
 -- where nothing is wrong with rows, that is wrong which is wrong with those after them

@@ -1,4 +1,4 @@
--- The cells of columns, as rows are read.
+-- Crates above may cite this file. The cells of columns, as rows are read.
 use Rattle.std.proofs.Common.{◌≡◌, ◌<◌, ℕ, zero, suc, List, [], ◌∷◌, length, map, Some, option_map, slice_get, set, refl, ap, ◌∙◌, arith}
 use Rattle.std.proofs.lemmas.List.{length-map}
 use Rattle.std.proofs.lemmas.Option.{slice_get-map}

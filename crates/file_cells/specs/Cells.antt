@@ -46,11 +46,6 @@ HasLineCells columns bytes lines.Nothing cells = Unit {0}
 HasLineCells columns bytes (lines.Table size) cells = (raw : RawTable) × IsRawTable bytes raw × HasSize raw size × HasTableCells columns raw cells
 HasLineCells columns bytes (lines.Faulty fault) cells = Unit {0}
 
--- the readers have read more rows
-abbrev pub ReadMore : List ColumnOf → List (List RawField) → List ReaderOf → List ReaderOf → Type 0
-ReadMore columns rows readers new =
-    (before : List (List CellValue)) → HaveRead most_rows columns before readers → HaveRead most_rows columns (before ++ rows_in columns rows) new
-
 -- the cells of a table with more rows, the first of which has that number
 abbrev pub AddsRows : List ColumnOf → ℕ → List ReaderOf → List (List RawField) → Cells → Type 0
 AddsRows columns first readers rows cells =

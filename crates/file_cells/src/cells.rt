@@ -1,13 +1,11 @@
 //! The cells of a file that is read window by window.
 ghost use Rattle.std.specs.Prelude.{◌≡◌, ◌≤◌, ◌+◌, ℕ, List, None, IfOk, IfErr, length, map};
 ghost use Rattle.cell_types.specs.Column.{column_view};
-ghost use Rattle.cell_types.specs.Value.{CellValue};
-ghost use Rattle.column_blocks.specs.ColumnReader.{HaveRead};
 ghost use Rattle.csv_fields.specs.Values.{FitsColumns};
 ghost use Rattle.csv_grammar.specs.Raw.{RawTable};
 ghost use Rattle.csv_index.specs.Index.{IsRawTable};
-ghost use Rattle.file_cells.specs.Cells.{most_rows, AddsLines, AddsRows, GivesCells, HasReadCells, HasTableCells, MayAddLines, ReadMore};
-ghost use Rattle.file_cells.specs.Parts.{IsFirstBadIn};
+ghost use Rattle.file_cells.specs.Cells.{most_rows, AddsLines, AddsRows, GivesCells, HasReadCells, HasTableCells, MayAddLines};
+ghost use Rattle.file_cells.specs.Parts.{ArePartReadOn, HavePartReaders, IsFirstBadIn};
 ghost use Rattle.file_cells.specs.Rows.{wrong_of};
 
 use crate::fault::{BadCell, FileFault};
@@ -20,7 +18,7 @@ use csv_windows::FirstLines;
 use std::alloc::Global;
 
 /// No file has more rows, so there is room for all cells of a column.
-const MOST_ROWS: usize = 1 << 31;
+pub const MOST_ROWS: usize = 1 << 31;
 
 /// What is read of the cells of the first lines of a file.
 #[derive(Drop)]
@@ -33,8 +31,8 @@ pub enum Cells {
     Wrong(FileFault),
 }
 
-/// Reads the rows of a file after others, part by part. Returns the readers; or the first cell, row by row, that has no value. The first row has that number.
-fn read_rows(
+/// Reads the rows of a file after others, part by part, into `readers`. Returns these; or the first cell, row by row, that has no value. The first row has that number.
+pub fn read_rows(
     alloc: Global,
     columns: &[Column],
     file: &IndexedText,
@@ -43,12 +41,12 @@ fn read_rows(
 ) -> Result<Vec<ColumnReader>, BadCell>
     requires fits { FitsColumns (map column_view columns.now) file.now }
     requires room { first + length file.now.rows ≤ most_rows }
-    requires read { (before : List (List CellValue)) × (length before ≡ first)
-        × HaveRead most_rows (map column_view columns.now) before readers.items }
+    requires readers { HavePartReaders (map column_view columns.now) readers.items
+        (length file.now.rows) }
     ensures right { IfOk result
         (λ _. wrong_of first (map column_view columns.now) file.now.rows ≡ None) }
     ensures read { IfOk result (λ new.
-        ReadMore (map column_view columns.now) file.now.rows readers.items new.items) }
+        ArePartReadOn (map column_view columns.now) file.now.rows readers.items new.items) }
     ensures bad { IfErr result (IsFirstBadIn first (map column_view columns.now) file.now.rows) }
 {
     let mut readers = readers;

@@ -10,6 +10,8 @@ mod laws;
 mod loader;
 mod parts;
 
+pub use cells::{MOST_ROWS, read_rows};
 pub use fault::{BadCell, FileFault};
 pub use file_reading::{FileCells, FileReading, FileStep};
+pub use header::first_mismatch;
 pub use laws::worked_rows;

@@ -15,4 +15,4 @@ pub use folders::{
     BuiltIn, FolderFault, Folders, NOTES, NOTES_BYTES, NOTES_FILE, NOTES_METADATA, notes,
 };
 pub use names::{METADATA, names_of};
-pub use plain::{look, read_plain};
+pub use plain::{is_too_large, look, open_plain, read_piece, read_plain};

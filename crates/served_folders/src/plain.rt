@@ -41,7 +41,7 @@ pub(crate) fn plain_len<R: Files>(files: &R, path: &str, follows: bool) -> io::R
 }
 
 /// Returns true if a file of `length` bytes is over the limit.
-pub(crate) fn is_too_large(length: u64) -> bool
+pub fn is_too_large(length: u64) -> bool
     ensures { IsTrue result ↔ (MOST_FILE_BYTES < length) }
 {
     length > u64::from(MOST_FILE_BYTES)
@@ -73,7 +73,7 @@ fn read_once<F: Read>(file: &mut F, room: &mut [u8]) -> io::Result<usize>
 }
 
 /// Reads on in a file of which `bytes` are read: at most [`PIECE`] more, and at most one more than the limit of a file in all. Returns whether there may be more.
-pub(crate) fn read_piece<F: Read>(file: &mut F, bytes: &mut Vec<u8>) -> io::Result<bool>
+pub fn read_piece<F: Read>(file: &mut F, bytes: &mut Vec<u8>) -> io::Result<bool>
     requires { vec_len bytes.old ≤ MOST_FILE_BYTES + 1 }
     ensures most { vec_len bytes.new ≤ MOST_FILE_BYTES + 1 }
     ensures on { IfOk result (λ more. more ≡ true → vec_len bytes.old < vec_len bytes.new) }
@@ -94,11 +94,7 @@ pub(crate) fn read_piece<F: Read>(file: &mut F, bytes: &mut Vec<u8>) -> io::Resu
 /// Opens the plain file at a path. Returns it, and how many bytes the system reports that it has. A link there is followed, or is no plain file. What is none is an invalid
 /// input: it is looked at before it is opened, since opening a FIFO waits for who writes into it; and what was opened is looked at too, since another file may be there by
 /// then.
-pub(crate) fn open_plain<R: Files>(
-    files: &R,
-    path: &str,
-    follows: bool,
-) -> io::Result<(R::File, u64)> {
+pub fn open_plain<R: Files>(files: &R, path: &str, follows: bool) -> io::Result<(R::File, u64)> {
     let found = plain(look(files, path, follows)?)?;
     let file = fs::open(files, path)?;
     let opened = plain(file.metadata()?)?;

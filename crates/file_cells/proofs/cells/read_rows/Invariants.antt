@@ -1,11 +1,8 @@
 -- The rows so far are read.
-use Rattle.std.proofs.Common.{◌≡◌, ◌≤◌, ◌+◌, ◌-◌, ◌++◌, List, drop, length, map, take}
+use Rattle.std.proofs.Common.{◌≡◌, ◌≤◌, ◌+◌, ◌-◌, drop, length, map, take}
 use Rattle.cell_types.specs.Column.{column_view}
-use Rattle.cell_types.specs.Value.{CellValue}
-use Rattle.csv_fields.specs.Values.{rows_in}
-use Rattle.column_blocks.specs.ColumnReader.{HaveRead}
 use Rattle.file_cells.specs.Rows.{wrong_of}
-use Rattle.file_cells.specs.Cells.{most_rows}
+use Rattle.file_cells.specs.Parts.{ArePartReadOn}
 use Rattle.file_cells.proofs.cells.read_rows.Given as goal
 
 abbrev pub invariant-loop-row : goal.invariant-loop-row
@@ -17,8 +14,7 @@ invariant-loop-row l =
       right : wrong_of l.first columns rows ≡ wrong_of (l.first + l.row) columns (drop l.row rows);
       left : l.parts.left ≡ drop l.row rows;
       width : l.parts.width ≡ length l.file.header;
-      read : (before : List (List CellValue)) → HaveRead most_rows columns before l.fn.readers.items
-          → HaveRead most_rows columns (before ++ take l.row (rows_in columns rows)) l.readers.items;
+      read : ArePartReadOn columns (take l.row rows) l.fn.readers.items l.readers.items;
     }
 
 abbrev pub decreases-loop-row : goal.decreases-loop-row
