@@ -1,12 +1,10 @@
 -- Some of the rows of a table.
-use Rattle.std.proofs.Common.{◌≡◌, inl, inr, Bool, true, false, cond, ℕ, Option, None, Some, option_map, option_and_then, get_or, refl, Result, Ok, Err, ◌+◌, ◌*◌, ◌-◌, ◌<◌, ◌≤◌, min, List, length, take, drop, slice_get, ap, sym, ◌∙◌, arith}
+use Rattle.std.proofs.Common.{◌≡◌, inl, inr, cond, ℕ, Option, None, Some, option_map, option_and_then, get_or, refl, Result, Ok, Err, ◌+◌, ◌*◌, ◌-◌, ◌<◌, ◌≤◌, min, List, length, take, drop, slice_get, ap, sym, ◌∙◌, arith}
 use Rattle.std.specs.Prelude.{IfOk}
 use Rattle.std.specs.declared.alloc.AllocError.{AllocError}
 use Rattle.std.proofs.lemmas.Bool.{cases_order}
 use Rattle.std.proofs.lemmas.List.{length-take, length-drop, take_all, take-map, drop-map}
 use Rattle.block_summary.specs.declared.block.TheConstants.{BLOCK_ROWS}
-use Rattle.cell_types.specs.declared.kind.ColumnKind.{ColumnKind}
-use Rattle.cell_types.specs.declared.kind.ColumnKind.TheVariants.{Text, Number}
 use Rattle.block_summary.specs.Ranges.{column_of}
 use Rattle.cell_types.specs.Kind.{kind_of}
 use Rattle.cell_types.specs.Column.{ColumnOf}
@@ -16,7 +14,6 @@ use Rattle.csv_grammar.proofs.ListLaws.{slice_get-drop, slice_get-take}
 use Rattle.table_store.specs.Table.{TableOf}
 use Rattle.table_store.specs.Block.{block_of, packed_cells, part, text_cells, typed_cells_of}
 use Rattle.column_blocks.specs.TypedColumn.{block_in, cells_of_numbers, cells_of_texts, typed_cells, ColumnCells}
-use Rattle.table_store.proofs.ColumnLemmas.{there}
 
 -- the first of a list, as many as are asked for or as there are
 take-fewer : {X : Type 0} (xs : List X) (n m : ℕ) → n ≡ min (length xs) m → take n xs ≡ take m xs

@@ -1,4 +1,4 @@
--- Tables one after another: the files that are left, and the first table that is refused.
+-- Crates above may cite this file. Tables one after another: the files that are left, and the first table that is refused.
 use Rattle.std.proofs.Common.{◌≡◌, ℕ, suc, false, List, [], ◌∷◌, ◌++◌, map, Option, Some, None, IfSome, option_map, refl, ◌∙◌, inl, inr, arith}
 use Rattle.std.specs.List.{All, AllByRecursion}
 use Rattle.std.specs.Str.{bytes_eq}

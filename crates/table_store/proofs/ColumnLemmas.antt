@@ -1,4 +1,4 @@
--- The rows of columns, and the columns of rows.
+-- Crates above may cite this file. The rows of columns, and the columns of rows.
 use Rattle.std.proofs.Common.{◌≡◌, ◌<◌, ℕ, zero, suc, ◌+◌, List, [], ◌∷◌, length, map, drop, get_or, Some, option_map, option_and_then, slice_get, refl, ap, sym, ◌∙◌, arith}
 use Rattle.std.specs.List.{range_with_len, All, AllByRecursion}
 use Rattle.std.proofs.Math.ListN.{get_or-map}

@@ -1,14 +1,13 @@
 -- The values of a file that is short, in columns whose defaults are, fit the columns, and its rows are no more than its bytes.
-use Rattle.std.proofs.Common.{◌≡◌, ℕ, ◌+◌, ◌^◌, ◌<◌, ◌≤◌, ◌==◌, Bool, true, false, cond, List, [], ◌∷◌, ◌++◌, length, length-append, map, Option, None, Some, IfSome, option_to_list, Ok, Err, refl, ap, sym, subst, arith}
+use Rattle.std.proofs.Common.{◌≡◌, ℕ, ◌+◌, ◌^◌, ◌≤◌, ◌==◌, Bool, true, false, cond, List, [], ◌∷◌, ◌++◌, length, length-append, map, Option, None, Some, option_to_list, Ok, Err, refl, ap, sym, subst, arith}
 use Rattle.std.specs.List.{All, AllByRecursion, flat_map}
 use Rattle.std.proofs.lemmas.List.{length-drop, length-map}
 use Rattle.std.proofs.lemmas.List.Elements.{All-cons, All-head, All-nil, All-tail}
 use Rattle.csv_grammar.specs.Bytes.{comma, double_quote}
-use Rattle.csv_grammar.specs.Files.{IsTable, mark_len, text_of}
-use Rattle.csv_grammar.specs.Records.{Field, IsLast, Line, LineBreak, content, crlf, doubled, lf, print_break, print_field, print_last, print_line, print_record, print_text, quoted, unquoted, AreRecords}
+use Rattle.csv_grammar.specs.Files.{IsTable, mark_len}
+use Rattle.csv_grammar.specs.Records.{Field, Line, content, doubled, print_break, print_field, print_last, print_line, print_record, print_text, quoted, unquoted}
 use Rattle.csv_grammar.specs.Raw.{RawField, field_of, raw_content}
 use Rattle.csv_grammar.specs.Raw.{RawTable}
-use Rattle.csv_index.specs.Index.{IsRawTable}
 use Rattle.cell_types.specs.declared.fault.CellFault.TheVariants.{Missing}
 use Rattle.cell_types.specs.Cell.{is_null_text, null_reading, text_or_default, typed_value, value_of}
 use Rattle.cell_types.specs.Column.{ColumnOf}

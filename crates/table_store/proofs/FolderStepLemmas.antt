@@ -1,5 +1,5 @@
 -- One step more of the loading of a folder.
-use Rattle.std.proofs.Common.{◌≡◌, ℕ, ◌+◌, ◌*◌, ◌^◌, ◌<◌, ◌≤◌, Bool, true, false, if◌then◌else◌, List, [], ◌∷◌, ◌++◌, length, map, Option, Some, None, Ok, IfSome, IsSome, refl, sym, ap, subst, ◌∙◌, append_assoc, append-nil, arith, string_bytes}
+use Rattle.std.proofs.Common.{◌≡◌, ℕ, ◌+◌, ◌*◌, ◌^◌, ◌<◌, ◌≤◌, Bool, true, false, if◌then◌else◌, List, [], ◌∷◌, ◌++◌, length, map, Option, Some, None, Ok, IfSome, IsSome, refl, sym, ap, subst, ◌∙◌, append_assoc, arith, string_bytes}
 use Rattle.std.specs.List.{AllByRecursion, IsDistinct}
 use Rattle.std.specs.Str.{bytes_eq}
 use Rattle.std.specs.VecDeque.{deque_len}
@@ -12,24 +12,19 @@ use Rattle.csvw_meta.specs.declared.schema.Schema.{Schema}
 use Rattle.key_index.specs.declared.reading.Held.{Held}
 use Rattle.key_index.specs.declared.reading.Held.TheVariants as held_by
 use Rattle.key_index.specs.Reading.{held_left}
-use Rattle.table_store.specs.declared.file.NamedFile.{NamedFile}
-use Rattle.table_store.specs.declared.file.FileStart.{FileStart}
-use Rattle.table_store.specs.declared.file.FileStart.TheVariants.{Missing, TooLarge, Begins}
-use Rattle.table_store.specs.declared.folder_loading.Loaded.{Loaded}
-use Rattle.table_store.specs.declared.folder_loading.Loaded.TheVariants as steps
 use Rattle.table_store.specs.declared.folder_loading.Loading.{Loading}
 use Rattle.table_store.specs.declared.reading.Stage.{Stage}
 use Rattle.table_store.specs.declared.reading.Stage.TheVariants as stages
 use Rattle.table_store.specs.declared.table_loading.TableLoading.{TableLoading}
 use Rattle.table_store.specs.Catalog.{schemas_in, FolderOf, HasTable, HaveTables, IsRefused}
 use Rattle.table_store.specs.Fault.{LoadCause, no_metadata, bad_meta, bad_table}
-use Rattle.table_store.specs.File.{file_named, files_view, with_more, FileOf, IsFileTaken, IsSuchFile}
-use Rattle.table_store.specs.FolderSteps.{coming_schemas, next_of, next_url, steps_left, waiting_of, BeginsFirst, HaveFiles, IsFolderWith, IsFolderWithMore, KeepsComing, Loads, LoadsIn, LoadsOn, LoadsOnIn}
+use Rattle.table_store.specs.File.{file_named, with_more, FileOf}
+use Rattle.table_store.specs.FolderSteps.{coming_schemas, next_of, steps_left, waiting_of, HaveFiles, IsFolderWith, IsFolderWithMore, Loads}
 use Rattle.table_store.specs.Loading.{DifferInUrl, HasKeyColumns, IsFirstRefused, IsRefusedTable}
 use Rattle.table_store.specs.Steps.{stage_left, stage_wants, IsAtStage, LoadsTable}
 use Rattle.table_store.specs.Table.{TableOf}
-use Rattle.table_store.proofs.StageLemmas.{few_keys}
-use Rattle.table_store.proofs.CatalogLemmas.{first_refused, HaveFiles-past, HaveTables-more}
+use Rattle.table_store.proofs.StageLemmas.{few_keys, few_read}
+use Rattle.table_store.proofs.CatalogLemmas.{first_refused, HaveTables-more}
 
 -- the first table that is refused is the cause of the folder
 refused_folder : (folder : FolderOf) (schemas : List SchemaOf) (cause : LoadCause) → schemas_in folder ≡ Some (Ok schemas)
@@ -121,6 +116,7 @@ flag false = omega arith
 few_at : (limit : ℕ) (file : Option (List ℕ)) (schema : SchemaOf) (stage : Stage) → IsAtStage limit file schema stage → stage_left stage ≤ 2 ^ 34
 few_at limit file schema (stages.File reading) at = omega (arith, flag reading.ended)
 few_at limit file schema (stages.Keys keys) at = omega (arith, few_keys limit file schema keys at, few_steps keys.rows keys.held)
+few_at limit file schema (stages.Summaries read) at = omega (arith, few_read limit file schema read at)
 
 few_left : (limit : ℕ) (file : Option (List ℕ)) (schema : SchemaOf) (table : TableLoading) → LoadsTable limit file schema table → stage_left table.stage ≤ 2 ^ 34
 few_left limit file schema table loads = few_at limit file schema table.stage loads.reads

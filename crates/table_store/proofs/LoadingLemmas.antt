@@ -1,9 +1,6 @@
--- What the steps of reading a file show of it, by its fields as they stand.
-use Rattle.std.proofs.Common.{◌≡◌, ◌≢◌, ℕ, List, [], ◌∷◌, length, map, Option, Some, None, IfSome, option_map, Result, Ok, Err, refl, ap, sym, subst, ◌∙◌, ◌⊎◌, inl, inr}
-use Rattle.std.specs.List.{AllByRecursion}
+-- Crates above may cite this file. What the steps of reading a file show of it, by its fields as they stand.
+use Rattle.std.proofs.Common.{◌≡◌, ◌≢◌, ℕ, List, map, Option, Some, None, IfSome, option_map, Result, Ok, Err, refl, ap, sym, subst, ◌∙◌, ◌⊎◌, inl, inr}
 use Rattle.std.specs.Result.{result_err}
-use Rattle.std.proofs.lemmas.List.{length-map}
-use Rattle.csv_grammar.specs.Files.{HasWidth}
 use Rattle.csv_grammar.specs.Raw.{RawField, field_of}
 use Rattle.csv_grammar.specs.Raw.{RawTable}
 use Rattle.csv_index.specs.Index.{IsRawTable}
@@ -15,7 +12,7 @@ use Rattle.key_index.specs.declared.keys.KeyFault.{KeyFault}
 use Rattle.key_index.specs.declared.keys.KeyFault.TheVariants.{Null, Twice}
 use Rattle.table_store.specs.Table.{rows_from, HasCells, HasOtherHeader, HasBadCell}
 use Rattle.table_store.specs.Fault.{TableCause, file_missing, file_too_large, bad_text, bad_header, bad_cell, key_null, key_twice, cell_cause}
-use Rattle.csv_fields.specs.Values.{rows_in, FitsColumns}
+use Rattle.csv_fields.specs.Values.{rows_in}
 use Rattle.key_index.specs.Keys.{HasKeyFault}
 use Rattle.file_cells.specs.declared.fault.FileFault.{FileFault}
 use Rattle.file_cells.specs.declared.fault.FileFault.TheVariants as wrong

@@ -1,35 +1,19 @@
 -- One step more of the loading of a folder whose files are in memory.
-use Rattle.std.proofs.Common.{◌≡◌, ℕ, ◌+◌, ◌*◌, ◌^◌, ◌<◌, ◌≤◌, Bool, true, false, if◌then◌else◌, List, [], ◌∷◌, ◌++◌, length, map, Option, Some, None, Ok, IfSome, IsSome, refl, sym, ap, subst, ◌∙◌, append_assoc, append-nil, arith, string_bytes}
-use Rattle.std.specs.List.{AllByRecursion, IsDistinct}
+use Rattle.std.proofs.Common.{◌≡◌, ℕ, ◌<◌, false, List, [], ◌∷◌, ◌++◌, Option, Some, None, IfSome, refl, sym, ap, subst, ◌∙◌, append-nil}
 use Rattle.std.specs.Str.{bytes_eq}
-use Rattle.std.specs.VecDeque.{deque_len}
-use Rattle.std.proofs.lemmas.Map.Keys.{IsDistinct-head, IsDistinct-tail}
-use Rattle.std.proofs.lemmas.Option.{IfSome_then, same_Some}
-use Rattle.csvw_meta.specs.Laws.{HasShortDefaults}
-use Rattle.csvw_meta.specs.Limits.{LimitsOf}
-use Rattle.csvw_meta.specs.Schema.{SchemaOf, schema_view}
-use Rattle.csvw_meta.specs.declared.schema.Schema.{Schema}
-use Rattle.key_index.specs.declared.reading.Held.{Held}
-use Rattle.key_index.specs.declared.reading.Held.TheVariants as held_by
-use Rattle.key_index.specs.Reading.{held_left}
+use Rattle.csvw_meta.specs.Schema.{SchemaOf}
 use Rattle.table_store.specs.declared.file.NamedFile.{NamedFile}
 use Rattle.table_store.specs.declared.file.FileStart.{FileStart}
 use Rattle.table_store.specs.declared.file.FileStart.TheVariants.{Missing, TooLarge, Begins}
 use Rattle.table_store.specs.declared.folder_loading.Loaded.{Loaded}
 use Rattle.table_store.specs.declared.folder_loading.Loaded.TheVariants as steps
 use Rattle.table_store.specs.declared.folder_loading.Loading.{Loading}
-use Rattle.table_store.specs.declared.reading.Stage.{Stage}
-use Rattle.table_store.specs.declared.reading.Stage.TheVariants as stages
-use Rattle.table_store.specs.declared.table_loading.TableLoading.{TableLoading}
-use Rattle.table_store.specs.Catalog.{schemas_in, FolderOf, HasTable, HaveTables, IsRefused}
-use Rattle.table_store.specs.Fault.{LoadCause, no_metadata, bad_meta, bad_table}
-use Rattle.table_store.specs.File.{file_named, files_view, with_more, FileOf, IsFileTaken, IsSuchFile}
+use Rattle.table_store.specs.Catalog.{FolderOf, IsRefused}
+use Rattle.table_store.specs.Fault.{LoadCause}
+use Rattle.table_store.specs.File.{file_named, files_view, with_more, IsFileTaken, IsSuchFile}
 use Rattle.table_store.specs.FolderSteps.{coming_schemas, next_url, steps_left, waiting_url, BeginsFirst, BeginsTable, FeedsTable, HaveFiles, IsFolderWith, IsFolderWithMore, KeepsComing, Loads, LoadsIn, LoadsOn, LoadsOnIn}
-use Rattle.table_store.specs.Loading.{DifferInUrl, HasKeyColumns, IsFirstRefused, IsRefusedTable}
-use Rattle.table_store.specs.Steps.{stage_left, stage_wants, IsAtStage, LoadsTable}
-use Rattle.table_store.specs.Table.{TableOf}
-use Rattle.table_store.proofs.StageLemmas.{few_keys}
-use Rattle.table_store.proofs.CatalogLemmas.{first_refused, HaveFiles-past, HaveTables-more}
+use Rattle.table_store.specs.Loading.{DifferInUrl}
+use Rattle.table_store.proofs.CatalogLemmas.{HaveFiles-past}
 use Rattle.table_store.proofs.FolderStepLemmas.{differ_after, next_some}
 
 -- ---- the folder has its files in memory

@@ -7,7 +7,7 @@ use Rattle.block_summary.specs.declared.block.TheConstants.{BLOCK_ROWS}
 use Rattle.block_summary.specs.Ranges.{RangeOf, no_range, IsRangeOf}
 use Rattle.cell_types.specs.Value.{CellValue}
 use Rattle.table_store.specs.Block.{block_count, block_of}
-use Rattle.table_store.specs.Summaries.{cells_by_column, AreRangesAt, AreRangesByBlock, AreSummariesOf, IsSummaryOf}
+use Rattle.table_store.specs.Summaries.{cells_by_column, AreFirstRanges, AreRangesAt, AreSummariesOf, IsSummaryOf}
 use Rattle.table_store.specs.Table.{TableOf}
 use Rattle.column_blocks.specs.TypedColumn.{AreTyped, ColumnCells}
 use Rattle.table_store.proofs.BlockLemmas.{column_of-part}
@@ -41,8 +41,8 @@ is_summary table typed number ranges are at = record {
 }
 
 pub are_summaries : (table : TableOf) (typed : List ColumnCells) (rows : ℕ) (summaries : List (List RangeOf)) → AreTyped table.schema.columns table.rows typed
-    → length table.rows ≡ rows → AreRangesByBlock rows typed summaries → AreSummariesOf table summaries
-are_summaries table typed rows summaries are size by = record {
-  count = by.count ∙ ap block_count (sym size);
-  each = λ number within. is_summary table typed number (get_or summaries number []) are (by.each number within);
+    → length table.rows ≡ rows → AreFirstRanges typed summaries → length summaries ≡ block_count rows → AreSummariesOf table summaries
+are_summaries table typed rows summaries are size first all = record {
+  count = all ∙ ap block_count (sym size);
+  each = λ number within. is_summary table typed number (get_or summaries number []) are (first number within);
 }

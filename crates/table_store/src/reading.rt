@@ -1,16 +1,17 @@
-//! A table is read from its file: first its columns, window by window, then the keys of its rows.
+//! A table is read from its file: first its columns, window by window, then the keys of its rows, and then the summaries of its blocks.
 ghost use Rattle.std.specs.Prelude.{◌≡◌, ◌≤◌, ◌^◌, ℕ, List, Option, None, IfOk, IfErr, IfSome, false};
 ghost use Rattle.csv_grammar.specs.Raw.{RawField};
-ghost use Rattle.csvw_meta.specs.Schema.{schema_view};
+ghost use Rattle.csvw_meta.specs.Schema.{schema_view, SchemaOf};
 ghost use Rattle.file_cells.specs.Reading.{wants_more, IsReading};
-ghost use Rattle.key_index.specs.Reading.{keys_left};
 ghost use Rattle.table_store.specs.Loading.{file_cause, table_cause, HasFileCause, HasKeyColumns, HasRowsCause};
-ghost use Rattle.table_store.specs.Steps.{stage_wants, FileReadsOn, IsAtStage, KeysReadOn, ReadsKeys, RefusesStage, StageStepsOn};
+ghost use Rattle.table_store.specs.Steps.{stage_left, stage_wants, FileReadsOn, IsAtStage, ReadsKeys, RefusesStage, RowsReadOn, StageStepsOn, Summarizes};
 
+use crate::summaries::SummarizedRows;
 use crate::table_fault::TableFault;
+use block_summary::BLOCK_ROWS;
 use csvw_meta::Schema;
 use file_cells::{FileFault, FileReading, FileStep};
-use key_index::{KeyStep, KeyedRows, KeysReading};
+use key_index::{KeyStep, KeysReading};
 use std::alloc::Global;
 
 /// How far the file of a table is read.
@@ -20,6 +21,8 @@ pub enum Stage {
     File(FileReading),
     /// The keys of its rows are read.
     Keys(KeysReading),
+    /// The summaries of its blocks are made.
+    Summaries(SummarizedRows),
 }
 
 /// What a step leaves.
@@ -28,7 +31,7 @@ pub enum StageStep {
     /// There is more to read.
     On(Stage),
     /// All is read.
-    Over(KeyedRows),
+    Over(SummarizedRows),
 }
 
 /// Returns the fault of a table whose file has that fault.
@@ -64,14 +67,14 @@ fn file_step(alloc: Global, schema: &Schema, reading: FileReading) -> Result<Sta
     }
 }
 
-/// Reads the keys of more rows. Returns the rows with their keys once those of all are, or why they have none.
+/// Reads the keys of more rows. Returns the rows, of which no block has its summary, once the keys of all are read, or why they have none.
 fn keys_step(alloc: Global, schema: &Schema, keys: KeysReading) -> Result<StageStep, TableFault>
     requires key { HasKeyColumns (schema_view schema.now) }
     requires few { keys.rows ≤ 2 ^ 30 }
     requires reads { (raws : List (List RawField)) × ReadsKeys (schema_view schema.now) raws keys }
     ensures goes_on { IfOk result (λ step. (raws : List (List RawField))
         → ReadsKeys (schema_view schema.now) raws keys
-        → KeysReadOn (schema_view schema.now) raws (keys_left keys) step) }
+        → RowsReadOn (schema_view schema.now) raws (stage_left (Stage.Keys keys)) step) }
     ensures fault { IfErr result (λ e. (raws : List (List RawField))
         → ReadsKeys (schema_view schema.now) raws keys
         → IfSome (table_cause e) (HasRowsCause (schema_view schema.now) raws)) }
@@ -79,8 +82,28 @@ fn keys_step(alloc: Global, schema: &Schema, keys: KeysReading) -> Result<StageS
 {
     match keys.step(alloc, schema.key.as_slice())? {
         KeyStep::On(keys) => Ok(StageStep::On(Stage::Keys(keys))),
-        KeyStep::Over(rows) => Ok(StageStep::Over(rows)),
+        KeyStep::Over(keyed) => {
+            let rows = SummarizedRows::start(alloc, keyed)?;
+            Ok(StageStep::On(Stage::Summaries(rows)))
+        }
         KeyStep::Refused(fault) => Err(TableFault::Key(fault)),
+    }
+}
+
+/// Makes the summaries of more blocks. Returns the rows with them once each block has its own.
+fn summaries_step(alloc: Global, rows: SummarizedRows) -> Result<StageStep, TableFault>
+    requires reads { (schema : SchemaOf) × (raws : List (List RawField))
+        × Summarizes schema raws rows }
+    ensures goes_on { IfOk result (λ step. (schema : SchemaOf) (raws : List (List RawField))
+        → Summarizes schema raws rows
+        → RowsReadOn schema raws (stage_left (Stage.Summaries rows)) step) }
+    ensures memory { IfErr result (λ e. e ≡ TableFault.NoMemory) }
+{
+    let rows = rows.step(alloc)?;
+    if rows.summaries.len() < rows.rows.rows.div_ceil(BLOCK_ROWS) {
+        Ok(StageStep::On(Stage::Summaries(rows)))
+    } else {
+        Ok(StageStep::Over(rows))
     }
 }
 
@@ -91,12 +114,12 @@ impl Stage {
     {
         match self {
             Stage::File(reading) => reading.wants(),
-            Stage::Keys(_) => false,
+            Stage::Keys(_) | Stage::Summaries(_) => false,
         }
     }
 
-    /// Reads one more window of the file of a schema's table, or the keys of more of its rows. Returns the rows with their keys once all is
-    /// read, or why the table is refused.
+    /// Reads one more window of the file of a schema's table, or the keys of more of its rows, or makes the summaries of more of its blocks.
+    /// Returns the rows with their keys and the summaries once all is read, or why the table is refused.
     pub fn step(self, alloc: Global, schema: &Schema) -> Result<StageStep, TableFault>
         requires key { HasKeyColumns (schema_view schema.now) }
         requires ready { stage_wants self ≡ false }
@@ -110,6 +133,7 @@ impl Stage {
         match self {
             Stage::File(reading) => file_step(alloc, schema, reading),
             Stage::Keys(keys) => keys_step(alloc, schema, keys),
+            Stage::Summaries(rows) => summaries_step(alloc, rows),
         }
     }
 }

@@ -15,14 +15,14 @@ ghost use Rattle.table_store.specs.Summaries.{AreSummariesOf};
 ghost use Rattle.table_store.specs.Table.{keys_of};
 
 use crate::fault::LoadFault;
-use crate::summaries::summaries_of;
+use crate::summaries::SummarizedRows;
 use crate::table_fault::TableFault;
 use block_summary::{BLOCK_ROWS, PackedColumn, Summary};
 use cell_types::Value;
 use column_blocks::{BlockCells, TypedColumn};
 use csvw_meta::Schema;
 use file_cells::{BadCell, FileFault};
-use key_index::{KeyFault, KeyedRows, Keys};
+use key_index::{KeyFault, Keys};
 use std::alloc::{AllocError, Global};
 use std::marker::Model;
 use text_columns::TextColumn;
@@ -152,27 +152,22 @@ impl Table {
             .find(self.columns.as_slice(), self.schema.key.as_slice(), key)
     }
 
-    /// Returns the table of a schema whose rows were read, with their keys.
-    pub(crate) fn of_rows(
-        alloc: Global,
-        schema: Schema,
-        rows: KeyedRows,
-    ) -> Result<Table, LoadFault>
-        requires read { IsReadWhole (schema_view schema) rows }
+    /// Returns the table of a schema whose rows were read, with their keys and the summaries of their blocks.
+    pub(crate) fn of_rows(schema: Schema, read: SummarizedRows) -> Table
+        requires read { IsReadWhole (schema_view schema) read }
         requires key { HasKeyColumns (schema_view schema) }
         requires defaults { HasShortDefaults (schema_view schema) }
-        ensures table { IfOk result (IsTableOfRows (schema_view schema) rows) }
-        ensures memory { IfErr result (λ e. e ≡ LoadFault.NoMemory) }
+        ensures { IsTableOfRows (schema_view schema) read result }
     {
         cell_types::values_fit_columns();
-        let summaries = summaries_of(alloc, rows.columns.as_slice(), rows.rows)?;
-        Ok(Table {
+        let SummarizedRows { rows, summaries } = read;
+        Table {
             schema,
             count: rows.rows,
             columns: rows.columns,
             keys: rows.keys,
             summaries,
-        })
+        }
     }
 
     /// Returns the columns and the summaries of the blocks.

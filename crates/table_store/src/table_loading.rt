@@ -1,4 +1,4 @@
-//! The loading of one table in steps, each of which reads a window of its file or the keys of some rows.
+//! The loading of one table in steps, each of which reads a window of its file or the keys of some rows, or makes the summaries of some blocks.
 ghost use Rattle.std.specs.Prelude.{◌≡◌, ◌^◌, ◌≤◌, ℕ, List, Option, None, IfOk, IfErr, IfSome, true, false};
 ghost use Rattle.csvw_meta.specs.Laws.{HasShortDefaults};
 ghost use Rattle.csvw_meta.specs.Schema.{schema_view, SchemaOf};
@@ -79,7 +79,7 @@ impl TableLoading {
                 let stage = Stage::File(reading.feed(bytes)?);
                 Ok(TableLoading { schema, stage })
             }
-            Stage::Keys(_) => unreachable!(),
+            _ => unreachable!(),
         }
     }
 
@@ -96,10 +96,7 @@ impl TableLoading {
         let TableLoading { schema, stage } = self;
         match stage.step(alloc, &schema) {
             Ok(StageStep::On(stage)) => Ok(TableStep::On(TableLoading { schema, stage })),
-            Ok(StageStep::Over(rows)) => match Table::of_rows(alloc, schema, rows) {
-                Ok(table) => Ok(TableStep::Over(table)),
-                Err(fault) => Err(fault),
-            },
+            Ok(StageStep::Over(rows)) => Ok(TableStep::Over(Table::of_rows(schema, rows))),
             Err(fault) => Err(fault_of(schema.url, fault)),
         }
     }

@@ -1,4 +1,4 @@
-use Rattle.std.proofs.Common.{◌≡◌, List, ℕ, Some, sym}
+use Rattle.std.proofs.Common.{sym}
 use Rattle.std.proofs.lemmas.Result.{IfErr-weaker}
 use Rattle.cell_types.proofs.CaseLaws.{IfOk-both}
 use Rattle.table_store.specs.Fault.{load_cause}

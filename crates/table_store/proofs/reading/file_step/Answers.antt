@@ -1,4 +1,4 @@
-use Rattle.std.proofs.Common.{◌≡◌, ◌+◌, ◌*◌, ◌++◌, map, [], append-nil, refl, sym, ap, ◌∙◌, subst}
+use Rattle.std.proofs.Common.{◌+◌, ◌*◌, ◌++◌, map, [], append-nil, refl, sym, ap, ◌∙◌, subst}
 use Rattle.cell_types.specs.Column.{column_view}
 use Rattle.csvw_meta.specs.Schema.{schema_view}
 use Rattle.file_cells.specs.Reading.{IsReading, IsWrongFile, RefusesGiven, StepsOn}

@@ -1,4 +1,4 @@
-use Rattle.std.proofs.Common.{◌≡◌, ◌<◌, Option, Some, IfSome, string_bytes, sym, subst}
+use Rattle.std.proofs.Common.{◌<◌, Option, Some, IfSome, sym, subst}
 use Rattle.table_store.specs.Fault.{load_cause}
 use Rattle.table_store.specs.FolderSteps.{steps_left, IsFolderWithMore, Loads}
 use Rattle.table_store.specs.declared.table_loading.TableLoading.{TableLoading}

@@ -1,4 +1,4 @@
-use Rattle.std.proofs.Common.{◌≡◌, [], Some, Ok, length, map, refl, ap, subst, arith}
+use Rattle.std.proofs.Common.{◌≡◌, [], Some, Ok, map, refl, ap, subst}
 use Rattle.std.proofs.lemmas.List.Elements.{recursion_from_All}
 use Rattle.csvw_meta.specs.Document.{schemas_of}
 use Rattle.csvw_meta.specs.Laws.{HasShortDefaults}

@@ -1,4 +1,4 @@
-use Rattle.std.proofs.Common.{◌≡◌, ◌<◌, ◌≤◌, ◌++◌, length, length-append, ap, sym, subst, arith}
+use Rattle.std.proofs.Common.{◌++◌, length-append, ap, sym, subst, arith}
 use Rattle.csvw_meta.specs.Schema.{SchemaOf}
 use Rattle.file_cells.proofs.ReadingLemmas.{given_is}
 use Rattle.table_store.specs.File.{with_more}

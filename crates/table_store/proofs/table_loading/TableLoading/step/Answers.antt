@@ -32,11 +32,11 @@ of_rows-requires-clause-key c = let l = c.requires.loads in subst HasKeyColumns 
 pub of_rows-requires-clause-defaults : goal.of_rows-requires-clause-defaults
 of_rows-requires-clause-defaults c = let l = c.requires.loads in subst HasShortDefaults (sym l.3.of_schema) l.3.defaults
 
-pub returns-in-Ok-clause-goes_on : goal.returns-in-Ok-clause-goes_on
-returns-in-Ok-clause-goes_on c = λ limit file schema loads.
+pub returns-in-Ok-Over-clause-goes_on : goal.returns-in-Ok-Over-clause-goes_on
+returns-in-Ok-Over-clause-goes_on c = λ limit file schema loads.
     let goes = rw c.in-Ok-Over.field-0-is at c.in-Ok-Over.ensures.goes_on in
-    subst (λ s. HasTable limit file s c.in-Ok.table) loads.of_schema
-    (c.in-Ok.ensures.table limit file (goes limit file (at_stage limit file schema c.args.self loads)))
+    subst (λ s. HasTable limit file s c.of_rows.result) loads.of_schema
+    (c.of_rows.ensures limit file (goes limit file (at_stage limit file schema c.args.self loads)))
 
 pub returns-in-Err-clause-fault : goal.returns-in-Err-clause-fault
 returns-in-Err-clause-fault c = λ limit file schema loads.
