@@ -2,10 +2,10 @@
 use Rattle.std.proofs.Common.{◌≡◌, ℕ, ◌+◌, ◌*◌, ◌-◌, ◌<◌, ◌≤◌, ◌^◌, List, [], ◌++◌, get_or, length, map, take, drop, sym, ap, subst, ◌∙◌, arith, refl}
 use Rattle.std.specs.Hash.{HashWrites}
 use Rattle.std.specs.List.{All}
-use Rattle.std.proofs.lemmas.List.{get_or-map, length-map}
+use Rattle.std.proofs.lemmas.List.{get_or-map}
 use Rattle.cell_types.proofs.ListLaws.{AllByRecursion-weaker}
 use Rattle.cell_types.specs.Rows.{values_at}
-use Rattle.cell_types.specs.Value.{CellValue, value_view}
+use Rattle.cell_types.specs.Value.{CellValue}
 use Rattle.cell_types.specs.declared.value.Value.{Value}
 use Rattle.insertion_map.specs.Hashes.{ArePlaces, PlacesOf}
 use Rattle.value_rows.specs.ValueRows.{rows_of}
@@ -22,46 +22,43 @@ use Rattle.aggregate_rows.proofs.ResultLemmas.{all_shown}
 use Rattle.aggregate_rows.proofs.TableLemmas.{all-shown, keys-of, rows-made, rows-of, whole-rows}
 
 module _ (input : Value → HashWrites) (g : Inside) (are : AreGroups input g) where
-  pub long : count_of g * g.width ≤ length (map value_view g.values.items)
-  long = omega (arith, are.values, length-map g.values.items value_view)
-
   -- how many groups there are
   pub many : length (groups_view g).groups ≡ count_of g
-  many = held-long g.key_width g.width g.set_count (count_of g) (map value_view g.values.items) g.sets.items are.wide long are.sets
+  many = held-long g.key_width g.width g.set_count (count_of g) g.values g.sets.items are.wide are.values are.sets
 
   pub place-held : (held : GroupsOf) → groups_view g ≡ held → (place : ℕ) → place < length held.groups → place < count_of g
   place-held held same place less = omega (arith, less, many, ap (λ (s : GroupsOf). length s.groups) same)
 
-  as_many : length (rows_of g.width (count_of g) (map value_view g.values.items)) ≡ length (rows_of g.set_count (count_of g) g.sets.items)
-  as_many = rows-long g.width (count_of g) (map value_view g.values.items) ∙ sym (rows-long g.set_count (count_of g) g.sets.items)
+  as_many : length (rows_of g.width (count_of g) g.values) ≡ length (rows_of g.set_count (count_of g) g.sets.items)
+  as_many = rows-long g.width (count_of g) g.values ∙ sym (rows-long g.set_count (count_of g) g.sets.items)
 
   -- the key at a place
-  pub key-here : (place : ℕ) → place < count_of g → get_or (keys_held (groups_view g)) place [] ≡ take g.key_width (drop (place * g.width) (map value_view g.values.items))
+  pub key-here : (place : ℕ) → place < count_of g → get_or (keys_held (groups_view g)) place [] ≡ take g.key_width (drop (place * g.width) g.values)
   key-here place inside =
-      let values = map value_view g.values.items in
+      let values = g.values in
       let rows = rows_of g.width (count_of g) values in
       rw (keys-of g.key_width rows (rows_of g.set_count (count_of g) g.sets.items) as_many)
       (rw (get_or-map (take g.key_width) rows place [] [] (omega (arith, inside, rows-long g.width (count_of g) values)))
       (rw (row-at g.width (count_of g) values place inside) (take-take-le g.key_width g.width (drop (place * g.width) values) are.wide)))
 
-  pub key-inside : (place : ℕ) → place < count_of g → place * g.width + g.key_width ≤ length g.values.items
+  pub key-inside : (place : ℕ) → place < count_of g → place * g.width + g.key_width ≤ length g.values
   key-inside place inside = let row = row-inside g.width (count_of g) place inside in omega (arith, row, are.wide, are.values)
 
   -- the rows of all groups are their values, or those at places
-  pub rows-held : map (λ (h : GroupOf). h.key ++ h.results) (groups_view g).groups ≡ rows_of g.width (count_of g) (map value_view g.values.items)
-  rows-held = rows-of g.key_width (rows_of g.width (count_of g) (map value_view g.values.items)) (rows_of g.set_count (count_of g) g.sets.items) as_many
+  pub rows-held : map (λ (h : GroupOf). h.key ++ h.results) (groups_view g).groups ≡ rows_of g.width (count_of g) g.values
+  rows-held = rows-of g.key_width (rows_of g.width (count_of g) g.values) (rows_of g.set_count (count_of g) g.sets.items) as_many
 
   pub rows-shown : (shown : List ℕ)
-      → map (values_at (numbers_from 0 g.key_width ++ map (λ place. g.key_width + place) shown)) (rows_of g.width (count_of g) (map value_view g.values.items)) ≡ map (shown_in shown) (groups_view g).groups
+      → map (values_at (numbers_from 0 g.key_width ++ map (λ place. g.key_width + place) shown)) (rows_of g.width (count_of g) g.values) ≡ map (shown_in shown) (groups_view g).groups
   rows-shown shown =
-      let rows = rows_of g.width (count_of g) (map value_view g.values.items) in
+      let rows = rows_of g.width (count_of g) g.values in
       all-shown g.key_width shown rows (rows_of g.set_count (count_of g) g.sets.items) as_many
       (AllByRecursion-weaker (λ (row : List CellValue). length row ≡ g.width) (λ row. g.key_width ≤ length row) (λ row e. omega (arith, e, are.wide)) rows
-      (rows-wide g.width (count_of g) (map value_view g.values.items) long))
+      (rows-wide g.width (count_of g) g.values are.values))
 
   -- these are the rows that are asked for
   pub rows-whole : (shown : List ℕ) → (length shown ≡ g.width - g.key_width) × ((i : ℕ) → i < g.width - g.key_width → get_or shown i 0 ≡ i)
-      → MakesRows (groups_view g) shown (rows_of g.width (count_of g) (map value_view g.values.items))
+      → MakesRows (groups_view g) shown (rows_of g.width (count_of g) g.values)
   rows-whole shown all = λ places aggregates rows has.
       let results : g.width - g.key_width ≡ length aggregates = ap (λ (s : ShapeOf). s.results) has.shape_is in
       rw (← rows-held, all_shown aggregates shown (g.width - g.key_width) results all) (whole-rows aggregates places (groups_view g) rows has)
@@ -70,7 +67,7 @@ module _ (input : Value → HashWrites) (g : Inside) (are : AreGroups input g) w
   shown-within shown have = rw (ap (λ (s : ShapeOf). s.results) have.3.shape_is) have.4
 
   pub rows-picked : (shown : List ℕ) → All (λ place. place < g.width - g.key_width) shown
-      → MakesRows (groups_view g) shown (map (values_at (numbers_from 0 g.key_width ++ map (λ place. g.key_width + place) shown)) (rows_of g.width (count_of g) (map value_view g.values.items)))
+      → MakesRows (groups_view g) shown (map (values_at (numbers_from 0 g.key_width ++ map (λ place. g.key_width + place) shown)) (rows_of g.width (count_of g) g.values))
   rows-picked shown within = λ places aggregates rows has.
       let results : g.width - g.key_width ≡ length aggregates = ap (λ (s : ShapeOf). s.results) has.shape_is in
       rows-shown shown ∙ rows-made aggregates shown (rw results at within) places (groups_view g) rows has

@@ -1,19 +1,19 @@
 -- What is computed of the rows of a group, where more join: values, and the sets of those that count different values.
-use Rattle.std.proofs.Common.{◌≡◌, ℕ, suc, ◌+◌, ◌<◌, Some, None, List, [], ◌∷◌, ◌++◌, length, drop, map, take, get_or, refl, sym, ap, subst, ◌∙◌, arith, true, false, Option, append_assoc}
+use Rattle.std.proofs.Common.{◌≡◌, ℕ, zero, suc, ◌+◌, ◌-◌, ◌<◌, ◌≤◌, Some, None, List, [], ◌∷◌, ◌++◌, length, drop, map, take, get_or, refl, sym, ap, subst, ◌∙◌, arith, true, false, Option, append_assoc}
 use Rattle.std.specs.Prelude.{is_some, slice_set}
 use Rattle.std.specs.List.{filter_map, AllZip}
 use Rattle.std.proofs.Math.ListN.{drop_of_length-le}
 use Rattle.std.proofs.Math.Seq.{drop-cons}
-use Rattle.std.proofs.lemmas.List.{append-nil, get_or-map, get_or_append_left, get_or_push, length-append, length-map, length_push, map-set, take-append-drop, take_more}
+use Rattle.std.proofs.lemmas.List.{append-nil, drop-drop, drop-set-add, get_or-drop, get_or-take, get_or_append_left, get_or_push, length-append, length-drop, length-set, length-take, length-take-le, length_push, set-append_left, set-append_right, take-append-drop, take_more}
 use Rattle.std.proofs.lemmas.List.Elements.{filter_map-append}
 use Rattle.std.proofs.lemmas.Slice.Zip.{all_zipped_more, AllZip-map}
-use Rattle.cell_types.specs.Value.{CellValue, value_view}
-use Rattle.cell_types.specs.declared.value.Value.{Value}
+use Rattle.cell_types.specs.Value.{CellValue, null}
 use Rattle.odata_query.specs.declared.aggregate.Aggregate.{Aggregate}
 use Rattle.odata_query.specs.declared.aggregate.Aggregate.TheVariants.{Count, CountDistinct}
 use Rattle.query_meaning.specs.Apply.{computed_value}
 use Rattle.aggregate_rows.specs.Distinct.{distinct_place}
 use Rattle.aggregate_rows.specs.declared.distinct.Distinct.{Distinct}
+use Rattle.aggregate_rows.specs.Table.{cut_values, IsPartPut}
 use Rattle.aggregate_rows.specs.Tallies.{aggregates_at, HasSet, HasSetsMore}
 use Rattle.aggregate_rows.proofs.ListLemmas.{from_long, next_by, one_more_by, ZipFrom}
 
@@ -88,17 +88,49 @@ abbrev pub IsOf : List (List CellValue) → Aggregate → CellValue → Type 0
 IsOf rows a v = v ≡ computed_value rows a
 
 -- the first of some values are computed of more rows
-module _ (aggregates : List Aggregate) (before after : List (List CellValue)) (values : List Value) (i : ℕ) (zip : ZipFrom (IsOf after) (IsOf before) i aggregates (map value_view values)) (inside : i < length aggregates) where
+module _ (aggregates : List Aggregate) (before after : List (List CellValue)) (values : List CellValue) (i : ℕ) (zip : ZipFrom (IsOf after) (IsOf before) i aggregates values) (inside : i < length aggregates) where
   pub result_inside : i < length values
-  result_inside = omega (arith, inside, from_long (IsOf after) (IsOf before) aggregates (map value_view values) i zip, length-map values value_view)
+  result_inside = omega (arith, inside, from_long (IsOf after) (IsOf before) aggregates values i zip)
 
-  pub its_result : (old : Value) → old ≡ get_or values i old → IsOf before (get_or aggregates i Count) (value_view old)
-  its_result old is = subst (IsOf before (get_or aggregates i Count)) (get_or-map value_view values i old (value_view old) result_inside ∙ ap value_view (sym is))
-      (next_by (IsOf after) (IsOf before) aggregates (map value_view values) i Count (value_view old) zip inside)
+  pub its_result : IsOf before (get_or aggregates i Count) (get_or values i null)
+  its_result = next_by (IsOf after) (IsOf before) aggregates values i Count null zip inside
 
-  pub result_joined : (made : Value) → IsOf after (get_or aggregates i Count) (value_view made) → ZipFrom (IsOf after) (IsOf before) (i + 1) aggregates (map value_view (slice_set values i made))
-  result_joined made is = subst (ZipFrom (IsOf after) (IsOf before) (i + 1) aggregates) (sym (map-set value_view values i made))
-      (one_more_by (IsOf after) (IsOf before) aggregates (map value_view values) i Count (value_view made) zip inside is)
+  pub result_joined : (made : CellValue) → IsOf after (get_or aggregates i Count) made → ZipFrom (IsOf after) (IsOf before) (i + 1) aggregates (slice_set values i made)
+  result_joined made is = one_more_by (IsOf after) (IsOf before) aggregates values i Count made zip inside is
+
+-- values from a place on, one of which changes
+module _ (from count : ℕ) (old new : List CellValue) (i : ℕ) (v : CellValue) (room : from + count ≤ length old) (less : i < count) (put : IsPartPut from count old new) where
+  pub piece_set : cut_values from count (slice_set new (from + i) v) ≡ slice_set (cut_values from count new) i v
+  piece_set = ap (take count) (drop-set-add from new i v) ∙ take-of-set count (drop from new) i v less
+    where
+      take-of-set : (n : ℕ) (xs : List CellValue) (i : ℕ) (v : CellValue) → i < n → take n (slice_set xs i v) ≡ slice_set (take n xs) i v
+      take-of-set zero xs i v less = absurd (omega (arith, less))
+      take-of-set (suc n) [] i v less = refl
+      take-of-set (suc n) (x ∷ xs) zero v less = refl
+      take-of-set (suc n) (x ∷ xs) (suc i) v less = ap (λ ys. x ∷ ys) (take-of-set n xs i v (omega (arith, less)))
+
+  pub put_more : IsPartPut from count old (slice_set new (from + i) v)
+  put_more =
+      let front = take from old in
+      let piece = cut_values from count new in
+      let end = drop (from + count) old in
+      let front_long : length front ≡ from = length-take-le from old (omega (arith, room)) in
+      let piece_long : length piece ≡ count = omega (arith, length-take count (drop from new), length-drop from new, put.long, room) in
+      let skip : from + i - from ≡ i = omega arith in
+      record {
+        long = length-set new (from + i) v ∙ put.long;
+        is = ap (λ xs. slice_set xs (from + i) v) put.is ∙ set-append_right front (piece ++ end) from (from + i) v front_long (omega arith)
+            ∙ ap (λ xs. front ++ xs) (ap (λ k. slice_set (piece ++ end) k v) skip ∙ set-append_left piece end i v (omega (arith, less, piece_long)) ∙ ap (λ xs. xs ++ end) (sym piece_set));
+      }
+
+  pub piece_at : get_or new (from + i) null ≡ get_or (cut_values from count new) i null
+  piece_at = sym (get_or-take count (drop from new) i null less ∙ get_or-drop from new i null)
+
+pub put_none : (from count : ℕ) (old : List CellValue) → IsPartPut from count old old
+put_none from count old = record {
+  long = refl;
+  is = sym (ap (λ xs. take from old ++ (cut_values from count old ++ xs)) (sym (drop-drop count from old)) ∙ ap (λ xs. take from old ++ xs) (take-append-drop count (drop from old)) ∙ take-append-drop from old);
+}
 
 -- ---- results at places
 

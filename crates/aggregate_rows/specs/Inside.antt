@@ -17,7 +17,7 @@ count_of groups = length groups.places.before
 abbrev pub groups_view : Inside → GroupsOf
 groups_view groups = record {
   shape = record { key = groups.key_width; results = groups.width - groups.key_width; sets = groups.set_count };
-  groups = groups_of groups.key_width (rows_of groups.width (count_of groups) (map value_view groups.values.items)) (rows_of groups.set_count (count_of groups) groups.sets.items);
+  groups = groups_of groups.key_width (rows_of groups.width (count_of groups) groups.values) (rows_of groups.set_count (count_of groups) groups.sets.items);
 }
 
 -- the hash of a key
@@ -35,6 +35,6 @@ pub record AreHashed (input : Value → HashWrites) (places : PlacesOf) (keys : 
 pub record AreGroups (input : Value → HashWrites) (groups : Inside) : Type 0 where
   pub wide : groups.key_width ≤ groups.width
   pub few : groups.width < 2 ^ 62
-  pub values : count_of groups * groups.width ≤ length groups.values.items
+  pub values : count_of groups * groups.width ≤ length groups.values
   pub sets : count_of groups * groups.set_count ≤ length groups.sets.items
   pub places : AreHashed input groups.places (map key_of_group (groups_view groups).groups)

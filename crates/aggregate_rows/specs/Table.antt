@@ -1,5 +1,5 @@
 -- Groups, each with what is kept of it.
-use Rattle.std.specs.Prelude.{◌≡◌, ◌++◌, ℕ, List, [], ◌∷◌, drop, length, map, take}
+use Rattle.std.specs.Prelude.{◌≡◌, ◌+◌, ◌++◌, ℕ, List, [], ◌∷◌, Option, Some, None, drop, length, take}
 use Rattle.std.specs.List.{filter_map}
 use Rattle.cell_types.specs.Value.{CellValue, value_view}
 use Rattle.cell_types.specs.declared.value.Value.{Value}
@@ -36,9 +36,27 @@ pub record GroupsOf : Type 0 where
 abbrev pub shape_of : ℕ → List Aggregate → ShapeOf
 shape_of key aggregates = record { key = key; results = length aggregates; sets = length (filter_map distinct_place aggregates) }
 
+-- as many values from a place on
+abbrev pub cut_values : ℕ → ℕ → List CellValue → List CellValue
+cut_values from count values = take count (drop from values)
+
+-- only these may have changed
+pub record IsPartPut (from count : ℕ) (old new : List CellValue) : Type 0 where
+  pub long : length new ≡ length old
+  pub is : new ≡ take from old ++ (cut_values from count new ++ drop (from + count) old)
+
+-- a value, or what stays if there is none
+abbrev pub value_or : Option Value → CellValue → CellValue
+value_or (Some value) old = value_view value
+value_or None old = old
+
 -- what is computed of the rows of a group, by itself
-abbrev pub results_of : List Value → List Distinct → GroupOf
-results_of results sets = record { key = []; results = map value_view results; sets = sets }
+abbrev pub results_of : List CellValue → List Distinct → GroupOf
+results_of results sets = record { key = []; results = results; sets = sets }
+
+-- and of a group whose results are the values from a place on
+abbrev pub results_from : ℕ → List Aggregate → List CellValue → List Distinct → GroupOf
+results_from from aggregates values sets = results_of (cut_values from (length aggregates) values) sets
 
 abbrev pub IsShaped : GroupsOf → List ℕ → List Aggregate → Type 0
 IsShaped groups places aggregates = groups.shape ≡ shape_of (length places) aggregates

@@ -10,7 +10,7 @@ use Rattle.query_meaning.specs.Fitting.{AreSummable}
 use Rattle.aggregate_rows.specs.declared.distinct.Distinct.{Distinct}
 use Rattle.aggregate_rows.specs.Computed.{decimals_in, integers_in}
 use Rattle.aggregate_rows.specs.Distinct.{distinct_place, HoldsDistinct}
-use Rattle.aggregate_rows.specs.Table.{GroupOf}
+use Rattle.aggregate_rows.specs.Table.{results_from, GroupOf}
 
 -- the values that rows have in a column, each once
 abbrev pub HasSet : List (List CellValue) → ℕ → Distinct → Type 0
@@ -56,6 +56,10 @@ pub record MayTallyEach (aggregates : List Aggregate) (width : ℕ) (old : Group
 
 abbrev pub TalliesEach : List Aggregate → GroupOf → GroupOf → List (List CellValue) → Type 0
 TalliesEach aggregates old new more = (rows : List (List CellValue)) → HasResults aggregates rows old → HasResults aggregates (rows ++ more) new
+
+-- and those of a group whose results are the values from a place on
+abbrev pub TalliesFrom : ℕ → List Aggregate → List CellValue → List Distinct → List CellValue → List Distinct → List (List CellValue) → Type 0
+TalliesFrom from aggregates values sets new_values new_sets more = TalliesEach aggregates (results_from from aggregates values sets) (results_from from aggregates new_values new_sets) more
 
 -- the aggregates at places
 abbrev pub aggregates_at : List ℕ → List Aggregate → List Aggregate

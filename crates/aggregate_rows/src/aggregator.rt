@@ -74,8 +74,12 @@ impl Aggregator {
     {
         match &self.places {
             None => {
-                let rows = RowsAt { columns, numbers };
-                self.groups.join_group(alloc, 0, &self.aggregates, rows)
+                let rows = RowsAt {
+                    aggregates: &self.aggregates,
+                    columns,
+                    numbers,
+                };
+                self.groups.join_group(alloc, 0, rows)
             }
             Some(places) => {
                 let grouping = Grouping {

@@ -15,7 +15,7 @@ ghost use Rattle.aggregate_rows.specs.Tallies.{HasSetsMore};
 
 use crate::distinct::Distinct;
 use crate::results::{distinct_count, distinct_place, join_each, result_of_none};
-use cell_types::{Value, owned};
+use cell_types::Value;
 use insertion_map::HashPlaces;
 use odata_query::Aggregate;
 use row_columns::Columns;
@@ -23,10 +23,12 @@ use row_selection::Selection;
 use std::alloc::{AllocError, Global};
 use std::hash::Hash;
 use std::marker::Model;
+use value_rows::PackedValues;
 
-/// Rows of columns.
+/// Rows of columns, and what is computed of them.
 #[derive(Clone, Copy)]
 pub(crate) struct RowsAt<'a> {
+    pub(crate) aggregates: &'a [Aggregate],
     pub(crate) columns: &'a Columns,
     pub(crate) numbers: &'a Selection,
 }
@@ -41,7 +43,7 @@ pub(crate) struct Groups {
     /// How many values a group has.
     width: usize,
     /// The values of all groups, one group after another. What is after them is of no group.
-    values: Vec<Value<'static>>,
+    values: PackedValues,
     /// How many aggregates count distinct values.
     set_count: usize,
     /// The distinct values of each group and each such aggregate, one group after another.
@@ -59,13 +61,6 @@ impl Model for Groups {
     ghost invariant = { AreGroups ⟦<Value<'static> as Hash>⟧.hash_input };
 }
 
-/// Returns true if two lists have equal items.
-fn are_equal<T: PartialEq>(items: &[T], others: &[T]) -> bool
-    ensures { result ≡ pointwise T.eq items.now others.now }
-{
-    items == others
-}
-
 impl Groups {
     /// Returns no groups.
     pub(crate) fn none(alloc: Global, key_width: usize, aggregates: &[Aggregate]) -> Groups
@@ -77,7 +72,7 @@ impl Groups {
             places: HashPlaces::new(alloc),
             key_width,
             width: key_width + aggregates.len(),
-            values: Vec::new(alloc),
+            values: PackedValues::new(alloc),
             set_count: distinct_count(aggregates),
             sets: Vec::new(alloc),
         }
@@ -90,14 +85,15 @@ impl Groups {
         self.places.len()
     }
 
-    /// Returns the values of the key of the group at `place`.
+    /// Returns true if the group at `place` has this key.
     #[inline(always)]
-    fn key(&self, place: usize) -> &[Value<'static>]
+    fn has_key(&self, place: usize, key: &[Value<'_>]) -> bool
         requires { place < length self.now.groups }
-        ensures { map value_view result.now ≡ slice_index_or (keys_held self.now) place [] }
+        ensures { result ≡ same_values (slice_index_or (keys_held self.now) place [])
+            (map value_view key.now) }
     {
-        let from = place * self.width;
-        &self.values[from..from + self.key_width]
+        self.values.are_few();
+        self.values.are_at(place * self.width, self.key_width, key)
     }
 
     /// Returns the place of the group with a key, given with its hash.
@@ -113,10 +109,7 @@ impl Groups {
             requires { place < length self.now.groups }
             ensures { result ≡ same_values (slice_index_or (keys_held self.entry.now) place [])
                 (map value_view key.entry.now) }
-        {
-            cell_types::values_compare_as_their_views();
-            are_equal(self.key(place), key)
-        };
+        { self.has_key(place, key) };
         self.places.find(hash, has_key)
     }
 
@@ -135,6 +128,7 @@ impl Groups {
             self.old.groups self.new.groups) }
     {
         cell_types::values_compare_as_their_views();
+        self.values.are_few();
         let count = self.places.len();
         let end = count * self.width;
         let set_end = count * self.set_count;
@@ -150,20 +144,19 @@ impl Groups {
         &mut self,
         alloc: Global,
         place: usize,
-        aggregates: &[Aggregate],
         rows: RowsAt<'_>,
     ) -> Result<(), AllocError>
         requires within { All (λ number. number < length rows.columns.now.rows) rows.numbers.now }
-        requires joins { MayJoinGroup aggregates.now self.old place
+        requires joins { MayJoinGroup rows.aggregates.now self.old place
             (length rows.columns.now.kinds) (numbered rows.numbers.now rows.columns.now.rows) }
-        ensures { OnOk result (JoinsGroup aggregates.now self.old self.new place
+        ensures { OnOk result (JoinsGroup rows.entry.aggregates.now self.old self.new place
             (numbered rows.entry.numbers.now rows.entry.columns.now.rows)) }
     {
+        self.values.are_few();
         let from = place * self.width + self.key_width;
         let set = place * self.set_count;
-        let results = &mut self.values.as_mut_slice()[from..from + aggregates.len()];
         let sets = &mut self.sets.as_mut_slice()[set..set + self.set_count];
-        join_each(alloc, results, sets, aggregates, rows)
+        join_each(alloc, &mut self.values, from, sets, rows)
     }
 
     /// Returns a row for each group: the values of its key, and what is computed of its rows by the aggregates at `shown`.
@@ -189,35 +182,34 @@ impl Groups {
 
 /// Appends copies of values.
 fn push_copies(
-    values: &mut Vec<Value<'static>>,
+    values: &mut PackedValues,
     alloc: Global,
     others: &[Value<'_>],
 ) -> Result<(), AllocError>
-    ensures front { take (length values.old.items) values.new.items ≡ values.old.items }
-    ensures values { OnOk result (map value_view values.new.items
-        ≡ map value_view values.old.items ++ map value_view others.now) }
+    ensures front { take (length values.old) values.new ≡ values.old }
+    ensures values { OnOk result (values.new ≡ values.old ++ map value_view others.now) }
 {
     for value in others {
-        values.push(owned(alloc, value)?)?;
+        values.push(alloc, value)?;
     }
     Ok(())
 }
 
 /// Appends what each aggregate computes of no rows, and a set of no values for each that counts distinct ones.
 fn push_results(
-    values: &mut Vec<Value<'static>>,
+    values: &mut PackedValues,
     sets: &mut Vec<Distinct>,
     alloc: Global,
     aggregates: &[Aggregate],
 ) -> Result<(), AllocError>
-    ensures front { take (length values.old.items) values.new.items ≡ values.old.items }
+    ensures front { take (length values.old) values.new ≡ values.old }
     ensures sets_front { take (length sets.old.items) sets.new.items ≡ sets.old.items }
-    ensures values { OnOk result (map value_view values.new.items
-        ≡ map value_view values.old.items ++ map (computed_value []) aggregates.now) }
+    ensures values { OnOk result
+        (values.new ≡ values.old ++ map (computed_value []) aggregates.now) }
     ensures sets { OnOk result (HasSetsMore aggregates.now sets.old.items sets.new.items) }
 {
     for aggregate in aggregates {
-        values.push(result_of_none(*aggregate))?;
+        values.push(alloc, &result_of_none(*aggregate))?;
         if distinct_place(*aggregate).is_some() {
             sets.push(Distinct::none(alloc))?;
         }

@@ -84,7 +84,12 @@ impl Groups {
             read_key(&mut key, columns, number, places)?;
             let numbers = &Selection::one(number);
             let place = self.group_of(alloc, &key, aggregates)?;
-            self.join_group(alloc, place, aggregates, RowsAt { columns, numbers })?;
+            let rows = RowsAt {
+                aggregates,
+                columns,
+                numbers,
+            };
+            self.join_group(alloc, place, rows)?;
         }
         Ok(())
     }

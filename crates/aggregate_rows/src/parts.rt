@@ -144,7 +144,12 @@ impl Groups {
         let mut place = 0;
         for part in parts {
             let numbers = &Selection::few(part);
-            self.join_group(alloc, place, aggregates, RowsAt { columns, numbers })?;
+            let rows = RowsAt {
+                aggregates,
+                columns,
+                numbers,
+            };
+            self.join_group(alloc, place, rows)?;
             place += 1;
         }
         Ok(())

@@ -1,27 +1,26 @@
 //! What is computed of the rows of a group, to which more may join (OData Data Aggregation 4.0, section 3.1.3): nulls are passed over.
-ghost use Rattle.std.specs.Prelude.{◌≡◌, ◌<◌, ◌++◌, ℕ, [], pos, IfOk, List, None, OnOk, length, map};
+ghost use Rattle.std.specs.Prelude.{◌≡◌, ◌<◌, ◌≤◌, ◌+◌, ◌++◌, ℕ, [], pos, IfOk, List, None, OnOk, length, map};
 ghost use Rattle.std.specs.List.{filter_map, All};
 ghost use Rattle.cell_types.specs.Kind.{cell_of};
 ghost use Rattle.cell_types.specs.Value.{CellValue, integer, value_view};
 ghost use Rattle.cell_types.specs.declared.kind.NumberKind.TheVariants.{Decimal, Integer};
 ghost use Rattle.query_meaning.specs.Apply.{computed_value};
 ghost use Rattle.row_columns.specs.Picked.{numbered};
-ghost use Rattle.aggregate_rows.specs.Computed.{better_value};
+ghost use Rattle.aggregate_rows.specs.Computed.{aggregate_of};
 ghost use Rattle.aggregate_rows.specs.Sums.{numbers_in, sum_of, MaySum};
 ghost use Rattle.aggregate_rows.specs.Distinct.{distinct_place};
-ghost use Rattle.aggregate_rows.specs.Table.{results_of};
-ghost use Rattle.aggregate_rows.specs.Tallies.{JoinsSet, MayTally, MayTallyEach, Tallies, TalliesEach};
+ghost use Rattle.aggregate_rows.specs.Table.{results_from, value_or, IsPartPut};
+ghost use Rattle.aggregate_rows.specs.Tallies.{JoinsSet, MayTally, MayTallyEach, Tallies, TalliesFrom};
 
 use crate::computed::{Extreme, extreme_in, wins};
 use crate::distinct::Distinct;
 use crate::groups::RowsAt;
 use crate::kept::sum_of_rows;
 use crate::sums::joined_sum;
-use cell_types::{NumberKind, Value, number_in, owned};
+use cell_types::{NumberKind, Value, number_in};
 use odata_query::Aggregate;
-use row_columns::Columns;
-use row_selection::Selection;
 use std::alloc::{AllocError, Global};
+use value_rows::PackedValues;
 
 /// Returns the place of the column whose distinct values an aggregate counts, if it counts such.
 pub(crate) fn distinct_place(aggregate: Aggregate) -> Option<usize>
@@ -63,35 +62,39 @@ pub(crate) fn distinct_count(aggregates: &[Aggregate]) -> usize
     count
 }
 
-/// Joins rows to those of a group: to those of which its results are computed, and of whose values there are sets.
+/// Joins rows to those of a group: to those of which its results are computed, which are the values from a place on, and of whose values there are sets.
 pub(crate) fn join_each(
     alloc: Global,
-    results: &mut [Value<'static>],
+    values: &mut PackedValues,
+    from: usize,
     sets: &mut [Distinct],
-    aggregates: &[Aggregate],
     rows: RowsAt<'_>,
 ) -> Result<(), AllocError>
     requires within { All (λ number. number < length rows.columns.now.rows) rows.numbers.now }
-    requires joins { MayTallyEach aggregates.now (length rows.columns.now.kinds)
-        (results_of results.old sets.old)
+    requires room { from + length rows.aggregates.now ≤ length values.old }
+    requires joins { MayTallyEach rows.aggregates.now (length rows.columns.now.kinds)
+        (results_from from rows.aggregates.now values.old sets.old)
         (numbered rows.numbers.now rows.columns.now.rows) }
-    ensures results { length results.new ≡ length results.old }
+    ensures values { IsPartPut from (length rows.entry.aggregates.now) values.old values.new }
     ensures sets { length sets.new ≡ length sets.old }
-    ensures joins { OnOk result (TalliesEach aggregates.now
-        (results_of results.old sets.old)
-        (results_of results.new sets.new)
+    ensures joins { OnOk result (TalliesFrom from rows.entry.aggregates.now
+        values.old sets.old values.new sets.new
         (numbered rows.entry.numbers.now rows.entry.columns.now.rows)) }
 {
+    values.are_few();
     let mut set = 0;
-    for i in 0..aggregates.len() {
-        match distinct_place(aggregates[i]) {
+    for i in 0..rows.aggregates.len() {
+        match distinct_place(rows.aggregates[i]) {
             Some(place) => {
-                results[i] = join_set(alloc, &mut sets[set], rows.columns, rows.numbers, place)?;
+                let count = join_set(alloc, &mut sets[set], rows, place)?;
+                values.set(alloc, from + i, &count)?;
                 set += 1;
             }
             None => {
-                let value = &mut results[i];
-                join_value(alloc, value, aggregates[i], rows.columns, rows.numbers)?;
+                let new = joined_value(&values.value(from + i), rows.aggregates[i], rows);
+                if let Some(new) = new {
+                    values.set(alloc, from + i, &new)?;
+                }
             }
         }
     }
@@ -102,56 +105,42 @@ pub(crate) fn join_each(
 fn join_set(
     alloc: Global,
     set: &mut Distinct,
-    columns: &Columns,
-    numbers: &Selection,
+    rows: RowsAt<'_>,
     place: usize,
 ) -> Result<Value<'static>, AllocError>
-    requires within { All (λ number. number < length columns.now.rows) numbers.now }
-    requires place { place < length columns.now.kinds }
+    requires within { All (λ number. number < length rows.columns.now.rows) rows.numbers.now }
+    requires place { place < length rows.columns.now.kinds }
     ensures { IfOk result (JoinsSet place set.old set.new
-        (numbered numbers.now columns.now.rows)) }
+        (numbered rows.entry.numbers.now rows.entry.columns.now.rows)) }
 {
-    set.join(alloc, columns, numbers, place)?;
+    set.join(alloc, rows.columns, rows.numbers, place)?;
     Ok(Value::Int(set.values.len() as i128))
 }
 
-/// Joins the rows with these numbers to those of which a value is computed.
-fn join_value(
-    alloc: Global,
-    value: &mut Value<'static>,
-    aggregate: Aggregate,
-    columns: &Columns,
-    numbers: &Selection,
-) -> Result<(), AllocError>
-    requires within { All (λ number. number < length columns.now.rows) numbers.now }
+/// Returns what becomes of a value that is computed of some rows when those with these numbers join, or `None` if it stays.
+#[inline(always)]
+fn joined_value<'a>(value: &Value<'_>, aggregate: Aggregate, rows: RowsAt<'a>) -> Option<Value<'a>>
+    requires within { All (λ number. number < length rows.columns.now.rows) rows.numbers.now }
     requires other { distinct_place aggregate ≡ None }
-    requires joins { MayTally aggregate (length columns.now.kinds) (value_view value.old)
-        (numbered numbers.now columns.now.rows) }
-    ensures { OnOk result (Tallies aggregate (value_view value.old) (value_view value.new)
-        (numbered numbers.now columns.now.rows)) }
+    requires joins { MayTally aggregate (length rows.columns.now.kinds) (value_view value.now)
+        (numbered rows.numbers.now rows.columns.now.rows) }
+    ensures { Tallies aggregate (value_view value.now) (value_or result (value_view value.now))
+        (numbered rows.entry.numbers.now rows.entry.columns.now.rows) }
 {
-    cell_types::values_are_ordered();
     match aggregate {
-        Aggregate::Count => *value = Value::Int(count_of(value) + numbers.len() as i128),
+        Aggregate::Count => Some(Value::Int(count_of(value) + rows.numbers.len() as i128)),
         Aggregate::SumOfIntegers(place) => {
             let sum = number_in(NumberKind::Integer, value);
-            *value = integer_or_null(sum_behind(sum, columns, numbers, place, NumberKind::Integer));
+            Some(integer_or_null(sum_behind(sum, rows, place, NumberKind::Integer)))
         }
         Aggregate::SumOfDecimals(place) => {
             let sum = number_in(NumberKind::Decimal, value);
-            *value = decimal_or_null(sum_behind(sum, columns, numbers, place, NumberKind::Decimal));
+            Some(decimal_or_null(sum_behind(sum, rows, place, NumberKind::Decimal)))
         }
-        Aggregate::Min(place) => {
-            let other = extreme_in(columns, numbers, place, Extreme::Least);
-            join_extreme(value, alloc, &other, Extreme::Least)?;
-        }
-        Aggregate::Max(place) => {
-            let other = extreme_in(columns, numbers, place, Extreme::Greatest);
-            join_extreme(value, alloc, &other, Extreme::Greatest)?;
-        }
-        Aggregate::CountDistinct(_) => {}
+        Aggregate::Min(place) => better_extreme(value, rows, place, Extreme::Least),
+        Aggregate::Max(place) => better_extreme(value, rows, place, Extreme::Greatest),
+        Aggregate::CountDistinct(_) => None,
     }
-    Ok(())
 }
 
 /// Returns the number that a value is; 0 if it is none.
@@ -184,35 +173,35 @@ fn decimal_or_null(millionths: Option<i128>) -> Value<'static>
     }
 }
 
-/// Returns the sum of the numbers that some rows and then the rows with these numbers have in a column.
-fn sum_behind(
-    sum: Option<i128>,
-    columns: &Columns,
-    numbers: &Selection,
-    place: usize,
-    kind: NumberKind,
-) -> Option<i128>
-    requires within { All (λ number. number < length columns.now.rows) numbers.now }
-    requires place { place < length columns.now.kinds }
-    requires joins { MaySum kind place sum (numbered numbers.now columns.now.rows) }
-    ensures { (rows : List (List CellValue)) → sum ≡ sum_of (numbers_in kind place rows)
-        → result ≡ sum_of (numbers_in kind place (rows ++ numbered numbers.now columns.now.rows)) }
+/// Returns the sum of the numbers that some rows and then these have in a column.
+fn sum_behind(sum: Option<i128>, rows: RowsAt<'_>, place: usize, kind: NumberKind) -> Option<i128>
+    requires within { All (λ number. number < length rows.columns.now.rows) rows.numbers.now }
+    requires place { place < length rows.columns.now.kinds }
+    requires joins { MaySum kind place sum (numbered rows.numbers.now rows.columns.now.rows) }
+    ensures { (some : List (List CellValue)) → sum ≡ sum_of (numbers_in kind place some)
+        → result ≡ sum_of (numbers_in kind place
+        (some ++ numbered rows.entry.numbers.now rows.entry.columns.now.rows)) }
 {
-    joined_sum(sum, sum_of_rows(columns, numbers, place, kind))
+    joined_sum(sum, sum_of_rows(rows.columns, rows.numbers, place, kind))
 }
 
-/// Replaces a value by a copy of another one, if that is less, or greater if the greatest is asked for; null is none.
-fn join_extreme(
-    value: &mut Value<'static>,
-    alloc: Global,
-    other: &Value<'_>,
+/// Returns the least value that the rows with these numbers have in a column, or the greatest if that is asked for, if it wins over another value; null is none.
+fn better_extreme<'a>(
+    value: &Value<'_>,
+    rows: RowsAt<'a>,
+    place: usize,
     extreme: Extreme,
-) -> Result<(), AllocError>
-    ensures { OnOk result (value_view value.new
-        ≡ better_value extreme (value_view value.old) (value_view other.now)) }
+) -> Option<Value<'a>>
+    requires within { All (λ number. number < length rows.columns.now.rows) rows.numbers.now }
+    requires place { place < length rows.columns.now.kinds }
+    ensures { Tallies (aggregate_of extreme place) (value_view value.now)
+        (value_or result (value_view value.now))
+        (numbered rows.entry.numbers.now rows.entry.columns.now.rows) }
 {
-    if wins(other, value, extreme) {
-        *value = owned(alloc, other)?;
+    cell_types::values_are_ordered();
+    let other = extreme_in(rows.columns, rows.numbers, place, extreme);
+    if wins(&other, value, extreme) {
+        return Some(other);
     }
-    Ok(())
+    None
 }

@@ -8,11 +8,12 @@ ghost use Rattle.row_columns.specs.Picked.{numbered};
 ghost use Rattle.result_rows.specs.Rows.{rows_of_row};
 
 use crate::names::{names_of, picked_names};
-use cell_types::{Value, owned};
+use cell_types::Value;
 use csvw_meta::Schema;
 use row_columns::{Columns, RowRef};
 use std::alloc::{AllocError, Global};
 use std::marker::Model;
+use value_rows::PackedValues;
 
 /// Rows of values under their names. They own what they have.
 #[derive(Drop)]
@@ -39,9 +40,9 @@ fn one_row(alloc: Global, values: &[Value<'_>]) -> Result<Columns, AllocError>
     ensures kinds { IfOk result (λ made. length made.kinds ≡ length values.now) }
     ensures rows { IfOk result (λ made. made.rows ≡ row_view values.now ∷ []) }
 {
-    let mut row = Vec::with_capacity(alloc, values.len())?;
+    let mut row = PackedValues::new(alloc);
     for value in values {
-        row.push(owned(alloc, value)?)?;
+        row.push(alloc, value)?;
     }
     Columns::of_values(alloc, values.len(), 1, row)
 }

@@ -7,12 +7,14 @@ ghost use Rattle.cell_types.specs.Value.{null, value_view};
 ghost use Rattle.row_columns.specs.Cell.{cell_view, IsDayOrNull};
 ghost use Rattle.row_columns.specs.Text.{text_of_cell};
 ghost use Rattle.text_columns.specs.PlainParts.{IsPlainCell};
+ghost use Rattle.value_rows.specs.Packed.{lent_value_view};
 
 use block_summary::PackedColumn;
 use cell_types::{NumberKind, Value};
 use column_blocks::BlockCells;
 use jiff_core::civil::Date;
 use text_columns::TextColumn;
+use value_rows::LentValue;
 
 /// A cell, as it is kept. It is as small as what it lends, so that a row is read without a [`Value`] between.
 #[derive(Clone, Copy, Drop)]
@@ -127,12 +129,29 @@ pub(crate) fn is_plain_in<const JSON: bool>(cells: &BlockCells, row: usize) -> b
     }
 }
 
-/// Returns the text of a value, or `None` if it is null, or no text.
-pub(crate) fn text_of<'a>(value: &'a Value<'static>) -> Option<&'a str>
-    ensures { option_map (λ t. t.now) result ≡ text_of_cell (value_view value.now) }
+/// Returns the cell of a value that is lent.
+#[inline(always)]
+pub(crate) fn cell_of(value: LentValue<'_>) -> Cell<'_>
+    ensures { cell_view result ≡ lent_value_view value.entry }
 {
     match value {
-        Value::Text(text) => Some(text.as_str()),
+        LentValue::Null => Cell::Null,
+        LentValue::Integer(number) => Cell::Integer(number),
+        LentValue::Decimal(millionths) => Cell::Decimal(millionths),
+        LentValue::Boolean(truth) => Cell::Boolean(truth),
+        LentValue::Date(date) => Cell::Date(date),
+        LentValue::Text(text) => Cell::Text(text),
+        LentValue::Other(value) => Cell::Value(value),
+    }
+}
+
+/// Returns the text of a value that is lent, or `None` if it is null, or no text.
+pub(crate) fn text_of<'a>(value: LentValue<'a>) -> Option<&'a str>
+    ensures { option_map (λ t. t.now) result ≡ text_of_cell (lent_value_view value.entry) }
+{
+    match value {
+        LentValue::Text(text) => Some(text),
+        LentValue::Other(Value::Text(text)) => Some(text.as_str()),
         _ => None,
     }
 }

@@ -21,7 +21,7 @@ use std::alloc::{AllocError, Global};
 use std::marker::Model;
 use std::mem;
 use table_store::Block;
-use value_rows::ValueRows;
+use value_rows::{PackedValues, ValueRows};
 
 /// Rows of values, one of the kind of each column. Of the rows of a block their numbers are kept, beside the block.
 #[derive(Drop)]
@@ -89,12 +89,12 @@ impl Columns {
         alloc: Global,
         width: usize,
         count: usize,
-        values: Vec<Value<'static>>,
+        values: PackedValues,
     ) -> Result<Columns, AllocError>
-        requires { count * width ≤ length values.items }
+        requires { count * width ≤ length values }
         ensures { IfOk result (λ made. made ≡ record {
           kinds = replicate width any;
-          rows = rows_of width count (map value_view values.entry.items);
+          rows = rows_of width count values;
         }) }
     {
         let numbers = RowNumbers::first(alloc, count)?;

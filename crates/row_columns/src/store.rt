@@ -14,10 +14,10 @@ ghost use Rattle.row_columns.specs.Store.{end_of, stored_kinds, stored_row, IsPi
 ghost use Rattle.row_columns.specs.Text.{text_of_cell};
 ghost use Rattle.text_columns.specs.PlainParts.{IsPlainCell};
 
-use crate::cell::{Cell, text_of};
+use crate::cell::{Cell, cell_of, text_of};
 use crate::piece::Piece;
 use block_summary::{BLOCK_ROWS, PackedColumn};
-use cell_types::{Column, ColumnKind, Value, lent};
+use cell_types::{Column, ColumnKind, Value};
 use row_selection::Selection;
 use std::alloc::{AllocError, Global};
 use table_store::Block;
@@ -130,7 +130,7 @@ impl Store {
     {
         match self {
             Store::Blocks(_, pieces) => pieces[number / BLOCK_ROWS].value(number % BLOCK_ROWS, col),
-            Store::Values(rows) => lent(rows.value(number, col)),
+            Store::Values(rows) => rows.value(number, col),
         }
     }
 
@@ -144,7 +144,7 @@ impl Store {
     {
         match self {
             Store::Blocks(_, pieces) => pieces[number / BLOCK_ROWS].cell(number % BLOCK_ROWS, col),
-            Store::Values(rows) => Cell::Value(rows.value(number, col)),
+            Store::Values(rows) => cell_of(rows.lent(number, col)),
         }
     }
 
@@ -176,7 +176,7 @@ impl Store {
     {
         match self {
             Store::Blocks(_, pieces) => pieces[number / BLOCK_ROWS].text(number % BLOCK_ROWS, col),
-            Store::Values(rows) => text_of(rows.value(number, col)),
+            Store::Values(rows) => text_of(rows.lent(number, col)),
         }
     }
 

@@ -1,1 +1,2 @@
+mod PackedLemmas
 pub mod RowLaws

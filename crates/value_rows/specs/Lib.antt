@@ -1,2 +1,3 @@
 pub use Rattle.table_store.specs.Block
+pub mod Packed
 pub mod ValueRows

@@ -1,6 +1,10 @@
-//! Rows of values of any kind, each of as many values, one after another in one list.
+//! Values of any kind, one after another in a list in which each is packed, and rows of such values.
 #![tactic(auto)]
 
+mod packed;
 mod rows;
+mod slots;
 
+pub use packed::PackedValues;
 pub use rows::ValueRows;
+pub use slots::LentValue;

@@ -3,9 +3,12 @@ ghost use Rattle.std.specs.Prelude.{◌≡◌, ◌<◌, ◌≤◌, ◌*◌, ◌+
 ghost use Rattle.std.specs.List.{All};
 ghost use Rattle.cell_types.specs.Rows.{values_at};
 ghost use Rattle.cell_types.specs.Value.{null, value_view};
+ghost use Rattle.value_rows.specs.Packed.{lent_value_view};
 ghost use Rattle.value_rows.specs.ValueRows.{numbered, rows_of};
 
-use cell_types::{Value, owned};
+use crate::packed::PackedValues;
+use crate::slots::{LentValue, value_of};
+use cell_types::Value;
 use std::alloc::{AllocError, Global};
 use std::marker::Model;
 use table_store::Block;
@@ -16,44 +19,26 @@ pub struct ValueRows {
     width: usize,
     count: usize,
     /// What is after the values of `count` rows is of no row.
-    values: Vec<Value<'static>>,
+    values: PackedValues,
 }
 
 impl Model for ValueRows {
-    ghost use Rattle.std.specs.Prelude.{◌*◌, ◌≤◌, length, map};
-    ghost use Rattle.cell_types.specs.Value.{value_view};
+    ghost use Rattle.std.specs.Prelude.{◌*◌, ◌≤◌, length};
     ghost use Rattle.value_rows.specs.ValueRows.{rows_of, ValueRowsOf};
 
     ghost Value = { ValueRowsOf };
 
     ghost view = { λ v. record {
       width = v.width;
-      rows = rows_of v.width v.count (map value_view v.values.items);
+      rows = rows_of v.width v.count v.values;
     } };
 
-    ghost invariant = { λ v. v.count * v.width ≤ length v.values.items };
-}
-
-/// Appends copies of those of the values of a row that have these places.
-fn push_picked(
-    values: &mut Vec<Value<'static>>,
-    alloc: Global,
-    row: &[Value<'static>],
-    places: &[usize],
-) -> Result<(), AllocError>
-    requires { All (λ place. place < length row.now) places.now }
-    ensures { OnOk result (map value_view values.new.items ≡ map value_view values.old.items
-        ++ values_at places.now (map value_view row.now)) }
-{
-    for place in places {
-        values.push(owned(alloc, &row[*place])?)?;
-    }
-    Ok(())
+    ghost invariant = { λ v. v.count * v.width ≤ length v.values };
 }
 
 /// Appends copies of the values that a row of a block has in the columns with these places.
 fn push_taken(
-    values: &mut Vec<Value<'static>>,
+    values: &mut PackedValues,
     alloc: Global,
     block: &Block<'_>,
     places: &[usize],
@@ -61,25 +46,21 @@ fn push_taken(
 ) -> Result<(), AllocError>
     requires places { All (λ place. place < length block.now.schema.columns) places.now }
     requires row { row < length block.now.rows }
-    ensures longer { length values.old.items ≤ length values.new.items }
-    ensures values { OnOk result (map value_view values.new.items
-        ≡ map value_view values.old.items
-        ++ values_at places.now (slice_index_or block.now.rows row [])) }
+    ensures longer { length values.old ≤ length values.new }
+    ensures values { OnOk result (values.new
+        ≡ values.old ++ values_at places.now (slice_index_or block.now.rows row [])) }
 {
     for place in places {
-        values.push(owned(alloc, &block.value(alloc, row, *place)?)?)?;
+        values.push(alloc, &block.value(alloc, row, *place)?)?;
     }
     Ok(())
 }
 
 impl ValueRows {
     /// Returns `count` rows of `width` values, one after another. Values after these are of no row.
-    pub fn of(width: usize, count: usize, values: Vec<Value<'static>>) -> ValueRows
-        requires { count * width ≤ length values.items }
-        ensures { result ≡ record {
-          width = width;
-          rows = rows_of width count (map value_view values.entry.items);
-        } }
+    pub fn of(width: usize, count: usize, values: PackedValues) -> ValueRows
+        requires { count * width ≤ length values }
+        ensures { result ≡ record { width = width; rows = rows_of width count values } }
     {
         ValueRows {
             width,
@@ -102,25 +83,46 @@ impl ValueRows {
         self.count
     }
 
-    /// Returns the value of a row and a column, both counted from 0.
+    /// Returns the value of a row and a column, both counted from 0, as it is kept.
     #[inline(always)]
-    pub fn value(&self, row: usize, col: usize) -> &Value<'static>
+    pub fn lent(&self, row: usize, col: usize) -> LentValue<'_>
         requires row { row < length self.now.rows }
         requires col { col < self.now.width }
-        ensures { value_view result.now
+        ensures { lent_value_view result
             ≡ slice_index_or (slice_index_or self.now.rows row []) col null }
     {
-        &self.values[row * self.width + col]
+        self.values.are_few();
+        self.values.lent(row * self.width + col)
     }
 
-    /// Returns the values of a row, counted from 0.
-    fn row(&self, row: usize) -> &[Value<'static>]
-        requires { row < length self.now.rows }
-        ensures row { map value_view result.now ≡ slice_index_or self.now.rows row [] }
-        ensures width { length result.now ≡ self.now.width }
+    /// Returns the value of a row and a column, both counted from 0.
+    #[inline(always)]
+    pub fn value(&self, row: usize, col: usize) -> Value<'_>
+        requires row { row < length self.now.rows }
+        requires col { col < self.now.width }
+        ensures { value_view result
+            ≡ slice_index_or (slice_index_or self.now.rows row []) col null }
     {
-        let from = row * self.width;
-        &self.values[from..from + self.width]
+        value_of(self.lent(row, col))
+    }
+
+    /// Appends copies of the values that a row has in the columns with these places to others.
+    fn push_picked(
+        &self,
+        values: &mut PackedValues,
+        alloc: Global,
+        places: &[usize],
+        row: usize,
+    ) -> Result<(), AllocError>
+        requires places { All (λ place. place < self.now.width) places.now }
+        requires row { row < length self.now.rows }
+        ensures { OnOk result (values.new
+            ≡ values.old ++ values_at places.now (slice_index_or self.now.rows row [])) }
+    {
+        for place in places {
+            values.push(alloc, &self.value(row, *place))?;
+        }
+        Ok(())
     }
 
     /// Returns copies of the values that the rows have in the columns with these places.
@@ -130,9 +132,9 @@ impl ValueRows {
         ensures rows { IfOk result
             (λ made. made.rows ≡ map (values_at places.now) self.now.rows) }
     {
-        let mut values = Vec::new(alloc);
+        let mut values = PackedValues::new(alloc);
         for number in 0..self.count {
-            push_picked(&mut values, alloc, self.row(number), places)?;
+            self.push_picked(&mut values, alloc, places, number)?;
         }
         Ok(ValueRows::of(places.len(), self.count, values))
     }
@@ -177,6 +179,7 @@ impl ValueRows {
         let Some(count) = self.count.checked_add(1) else {
             return Err(AllocError);
         };
+        self.values.are_few();
         self.values.truncate(self.count * self.width);
         push_taken(&mut self.values, alloc, block, places, row)?;
         self.count = count;

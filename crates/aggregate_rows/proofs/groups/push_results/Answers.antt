@@ -1,5 +1,5 @@
 use Rattle.std.proofs.Common.{◌≡◌, ◌++◌, ◌∷◌, ◌+◌, [], length, map, take, sym, ap, ◌∙◌, append_assoc}
-use Rattle.std.proofs.lemmas.List.{map_more, map_push}
+use Rattle.std.proofs.lemmas.List.{map_more}
 use Rattle.cell_types.specs.Value.{value_view}
 use Rattle.odata_query.specs.declared.aggregate.Aggregate.TheVariants.{Count}
 use Rattle.query_meaning.specs.Apply.{computed_value}
@@ -12,17 +12,15 @@ pub loop-aggregate-preserved : goal.loop-aggregate-preserved
 loop-aggregate-preserved c =
     let aggregates = c.args.aggregates.now in
     let i = c.loop-aggregate.aggregate-index in
-    let old = c.args.values.now.items in
+    let old = c.args.values.now in
     let old_sets = c.args.sets.now.items in
-    let values = c.loop-aggregate.values.items in
-    let v = c.result_of_none.result in
+    let v = value_view c.result_of_none.result in
     let computed = map (computed_value []) (take i aggregates) in
     let at = sym c.distinct_place.ensures in
-    let front : take (length old) c.push.new.self.items ≡ old = ap (take (length old)) c.in_ok-push.ensures.items ∙ front_more old values v c.loop-aggregate.invariant.front in
-    let made : map value_view c.push.new.self.items ≡ map value_view old ++ map (computed_value []) (take (i + 1) aggregates) =
-    ap (map value_view) c.in_ok-push.ensures.items ∙ map_push value_view values v ∙ ap (λ vs. vs ++ value_view v ∷ []) c.loop-aggregate.invariant.values
-    ∙ append_assoc (map value_view old) computed (value_view v ∷ [])
-    ∙ ap (λ vs. map value_view old ++ vs) (ap (λ x. computed ++ x ∷ []) c.result_of_none.ensures ∙ sym (map_more (computed_value []) aggregates i Count c.loop-aggregate-test.true)) in
+    let front : take (length old) c.push.new.self ≡ old = ap (take (length old)) c.in_ok-push.ensures.pushed ∙ front_more old c.loop-aggregate.values v c.loop-aggregate.invariant.front in
+    let made : c.push.new.self ≡ old ++ map (computed_value []) (take (i + 1) aggregates) =
+    c.in_ok-push.ensures.pushed ∙ ap (λ vs. vs ++ v ∷ []) c.loop-aggregate.invariant.values ∙ append_assoc old computed (v ∷ [])
+    ∙ ap (λ vs. old ++ vs) (ap (λ x. computed ++ x ∷ []) c.result_of_none.ensures ∙ sym (map_more (computed_value []) aggregates i Count c.loop-aggregate-test.true)) in
     elim c.if-is_some.branch [
       | then-is_some+in_ok-push-2 w ↦ (let items = w.in_ok-push-2.ensures.items in rw w.sets-is (record {
         front = front;

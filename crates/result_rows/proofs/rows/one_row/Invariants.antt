@@ -4,4 +4,4 @@ use Rattle.result_rows.proofs.rows.one_row.Given as goal
 
 -- the values so far
 abbrev pub invariant-loop-value : goal.invariant-loop-value
-invariant-loop-value l = map value_view l.row.items ≡ map value_view (take l.value-index l.values)
+invariant-loop-value l = l.row ≡ map value_view (take l.value-index l.values)

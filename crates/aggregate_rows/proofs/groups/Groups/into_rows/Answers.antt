@@ -1,7 +1,6 @@
 use Rattle.std.proofs.Common.{◌≡◌, ◌+◌, ◌++◌, length, map, replicate, sym, ap, subst, ◌∙◌, arith}
 use Rattle.std.proofs.lemmas.List.{length-append, length-map, length-replicate}
 use Rattle.std.proofs.lemmas.Result.{IfOk-weaker}
-use Rattle.cell_types.specs.Value.{value_view}
 use Rattle.value_rows.specs.ValueRows.{rows_of}
 use Rattle.value_rows.proofs.RowLaws.{rows-long}
 use Rattle.row_columns.specs.Columns.{ColumnsOf}
@@ -26,7 +25,7 @@ returns-then-are_all-clause-rows c =
     let g = c.self.inside in
     let count : c.len-count.result ≡ count_of g = c.len-count.ensures ∙ sym (ap (λ (g : GroupsOf). length g.groups) c.self.view_is) ∙ many _ g c.self.invariant in
     let shown = c.args.shown.now in
-    rw (c.in_ok-columns.ensures, count) (subst (λ (s : GroupsOf). MakesRows s shown (rows_of g.width (count_of g) (map value_view g.values.items))) c.self.view_is
+    rw (c.in_ok-columns.ensures, count) (subst (λ (s : GroupsOf). MakesRows s shown (rows_of g.width (count_of g) g.values)) c.self.view_is
     (rows-whole _ g c.self.invariant shown (c.are_all.ensures c.if-are_all.true)))
 
 pub returns-then-are_all-clause-kinds : goal.returns-then-are_all-clause-kinds
@@ -49,7 +48,7 @@ picked-requires-clause-places c =
 pub picked-requires-clause-within : goal.picked-requires-clause-within
 picked-requires-clause-within c =
     let g = c.self.inside in
-    rw (c.in_ok-columns.ensures, c.deref-2.ensures.value, c.in_ok-numbers.ensures, c.all.ensures, rows-long g.width c.len-count.result (map value_view g.values.items)) (all_within c.len-count.result)
+    rw (c.in_ok-columns.ensures, c.deref-2.ensures.value, c.in_ok-numbers.ensures, c.all.ensures, rows-long g.width c.len-count.result g.values) (all_within c.len-count.result)
 
 pub returns-clause-kinds : goal.returns-clause-kinds
 returns-clause-kinds c =
@@ -68,13 +67,13 @@ pub returns-clause-rows : goal.returns-clause-rows
 returns-clause-rows c =
     let g = c.self.inside in
     let shown = c.args.shown.now in
-    let rows = rows_of g.width (count_of g) (map value_view g.values.items) in
+    let rows = rows_of g.width (count_of g) g.values in
     let places = numbers_from 0 g.key_width ++ map (λ place. g.key_width + place) shown in
     let count : c.len-count.result ≡ count_of g = c.len-count.ensures ∙ sym (ap (λ (g : GroupsOf). length g.groups) c.self.view_is) ∙ many _ g c.self.invariant in
     let are : c.deref.result.now ≡ places = c.deref.ensures.value ∙ c.in_ok-places.ensures in
-    let held : c.in_ok-columns.columns.rows ≡ rows = ap (λ (of : ColumnsOf). of.rows) c.in_ok-columns.ensures ∙ ap (λ n. rows_of g.width n (map value_view g.values.items)) count in
+    let held : c.in_ok-columns.columns.rows ≡ rows = ap (λ (of : ColumnsOf). of.rows) c.in_ok-columns.ensures ∙ ap (λ n. rows_of g.width n g.values) count in
     let all : c.deref-2.result.now ≡ numbers_from 0 (length rows) =
-    c.deref-2.ensures.value ∙ c.in_ok-numbers.ensures ∙ c.all.ensures ∙ ap (numbers_from 0) (count ∙ sym (rows-long g.width (count_of g) (map value_view g.values.items))) in
+    c.deref-2.ensures.value ∙ c.in_ok-numbers.ensures ∙ c.all.ensures ∙ ap (numbers_from 0) (count ∙ sym (rows-long g.width (count_of g) g.values)) in
     let within = shown-within _ g c.self.invariant shown (subst (λ (s : GroupsOf). HaveShown s shown) (sym c.self.view_is) c.requires) in
     IfOk-weaker c.picked.result (λ (made : ColumnsOf). made.rows ≡ map (values_at c.deref.result.now) (numbered c.deref-2.result.now c.in_ok-columns.columns.rows)) (λ (made : ColumnsOf). MakesRows c.args.self shown made.rows)
     (λ made is. subst (λ (s : GroupsOf). MakesRows s shown made.rows) c.self.view_is (λ of aggregates some has.

@@ -4,13 +4,10 @@ use Rattle.aggregate_rows.proofs.PushLemmas.{has-room, may-tally, put-are, put-j
 use Rattle.aggregate_rows.proofs.groups.Groups.join_group.Goals as goal
 
 pub overflow_mul-from : goal.overflow_mul-from
-overflow_mul-from c = let room = has-room _ c.self.inside c.self.invariant c.args.place c.args.self.now c.self.view_is _ _ _ c.requires.joins in omega (arith, c.self.invariant.wide, c.self.inside.values.ok.0, c.self.inside.values.small)
+overflow_mul-from c = let room = has-room _ c.self.inside c.self.invariant c.args.place c.args.self.now c.self.view_is _ _ _ c.requires.joins in omega (arith, c.self.invariant.wide, c.are_few.ensures)
 
 pub overflow_add-from : goal.overflow_add-from
-overflow_add-from c = let room = has-room _ c.self.inside c.self.invariant c.args.place c.args.self.now c.self.view_is _ _ _ c.requires.joins in omega (arith, c.self.invariant.wide, c.self.inside.values.ok.0, c.self.inside.values.small)
-
-pub offset_bounds-as_mut_slice-from : goal.offset_bounds-as_mut_slice-from
-offset_bounds-as_mut_slice-from c = let room = has-room _ c.self.inside c.self.invariant c.args.place c.args.self.now c.self.view_is _ _ _ c.requires.joins in omega (arith, c.self.invariant.wide, c.self.inside.values.ok.0, c.self.inside.values.small)
+overflow_add-from c = let room = has-room _ c.self.inside c.self.invariant c.args.place c.args.self.now c.self.view_is _ _ _ c.requires.joins in omega (arith, c.self.invariant.wide, c.are_few.ensures)
 
 pub overflow_mul-set : goal.overflow_mul-set
 overflow_mul-set c = let room = has-room _ c.self.inside c.self.invariant c.args.place c.args.self.now c.self.view_is _ _ _ c.requires.joins in omega (arith, c.self.invariant.wide, c.self.inside.sets.ok.0, c.self.inside.sets.small)
@@ -21,29 +18,24 @@ overflow_add-sets c = let room = has-room _ c.self.inside c.self.invariant c.arg
 pub offset_bounds-as_mut_slice-set : goal.offset_bounds-as_mut_slice-set
 offset_bounds-as_mut_slice-set c = let room = has-room _ c.self.inside c.self.invariant c.args.place c.args.self.now c.self.view_is _ _ _ c.requires.joins in omega (arith, c.self.invariant.wide, c.self.inside.sets.ok.0, c.self.inside.sets.small)
 
-pub overflow_add-results : goal.overflow_add-results
-overflow_add-results c = let room = has-room _ c.self.inside c.self.invariant c.args.place c.args.self.now c.self.view_is _ _ _ c.requires.joins in omega (arith, c.self.invariant.wide, c.self.inside.values.ok.0, c.self.inside.values.small)
-
-pub slice_bounds-results-end : goal.slice_bounds-results-end
-slice_bounds-results-end c = let room = has-room _ c.self.inside c.self.invariant c.args.place c.args.self.now c.self.view_is _ _ _ c.requires.joins in omega (arith, c.self.invariant.wide, ap length c.as_mut_slice.ensures.value)
-
 pub slice_bounds-sets-end : goal.slice_bounds-sets-end
-slice_bounds-sets-end c = let room = has-room _ c.self.inside c.self.invariant c.args.place c.args.self.now c.self.view_is _ _ _ c.requires.joins in omega (arith, ap length c.as_mut_slice-2.ensures.value)
+slice_bounds-sets-end c = let room = has-room _ c.self.inside c.self.invariant c.args.place c.args.self.now c.self.view_is _ _ _ c.requires.joins in omega (arith, ap length c.as_mut_slice.ensures.value)
+
+pub join_each-requires-clause-room : goal.join_each-requires-clause-room
+join_each-requires-clause-room c = let room = has-room _ c.self.inside c.self.invariant c.args.place c.args.self.now c.self.view_is _ _ _ c.requires.joins in omega (arith, c.self.invariant.wide)
 
 pub join_each-requires-clause-joins : goal.join_each-requires-clause-joins
 join_each-requires-clause-joins c =
-    may-tally _ c.self.inside c.self.invariant c.args.place c.args.self.now c.self.view_is c.args.aggregates.now _ _ c.requires.joins
-    c.as_mut_slice.result.now c.as_mut_slice.ensures.value c.as_mut_slice-2.result.now c.as_mut_slice-2.ensures.value
+    may-tally _ c.self.inside c.self.invariant c.args.place c.args.self.now c.self.view_is _ _ _ c.requires.joins
+    c.as_mut_slice.result.now c.as_mut_slice.ensures.value
 
 pub invariant_of-self : goal.invariant_of-self
 invariant_of-self c =
-    put-are _ c.self.inside c.self.invariant c.args.place c.args.self.now c.self.view_is c.args.aggregates.now _ _ c.requires.joins
-    c.as_mut_slice.result.now c.as_mut_slice.ensures.value c.as_mut_slice-2.result.now c.as_mut_slice-2.ensures.value
-    c.join_each.new.results c.join_each.new.sets c.join_each.ensures.results c.join_each.ensures.sets
+    put-are _ c.self.inside c.self.invariant c.args.place c.args.self.now c.self.view_is _ _ _ c.requires.joins
+    c.as_mut_slice.result.now c.as_mut_slice.ensures.value c.join_each.new.values c.join_each.ensures.values c.join_each.new.sets c.join_each.ensures.sets
 
 pub returns : goal.returns
 returns c =
     on_ok_weaker c.join_each.result
-    (put-joined _ c.self.inside c.self.invariant c.args.place c.args.self.now c.self.view_is c.args.aggregates.now _ _ c.requires.joins
-    c.as_mut_slice.result.now c.as_mut_slice.ensures.value c.as_mut_slice-2.result.now c.as_mut_slice-2.ensures.value
-    c.join_each.new.results c.join_each.new.sets c.join_each.ensures.results c.join_each.ensures.sets) c.join_each.ensures.joins
+    (put-joined _ c.self.inside c.self.invariant c.args.place c.args.self.now c.self.view_is _ _ _ c.requires.joins
+    c.as_mut_slice.result.now c.as_mut_slice.ensures.value c.join_each.new.values c.join_each.ensures.values c.join_each.new.sets c.join_each.ensures.sets) c.join_each.ensures.joins

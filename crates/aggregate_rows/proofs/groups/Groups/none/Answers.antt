@@ -1,5 +1,4 @@
-use Rattle.std.proofs.Common.{◌≡◌, ◌+◌, ◌-◌, length, map, refl, arith}
-use Rattle.cell_types.specs.Value.{value_view}
+use Rattle.std.proofs.Common.{◌≡◌, ◌+◌, ◌-◌, length, refl, arith}
 use Rattle.aggregate_rows.proofs.InsideLemmas.{none-are, none-held}
 use Rattle.aggregate_rows.proofs.groups.Groups.none.Goals as goal
 
@@ -13,4 +12,4 @@ returns-clause-shape c =
 
 pub returns-clause-groups : goal.returns-clause-groups
 returns-clause-groups c =
-    none-held c.args.key_width (c.args.key_width + length c.args.aggregates.now) c.distinct_count.result c.new.result (map value_view c.new-2.result.items) c.new-3.result.items c.new.ensures
+    none-held c.args.key_width (c.args.key_width + length c.args.aggregates.now) c.distinct_count.result c.new.result c.new-2.result c.new-3.result.items c.new.ensures

@@ -1,5 +1,4 @@
 use Rattle.std.proofs.Common.{◌≡◌, ◌≤◌, ◌*◌, length, map, take}
-use Rattle.cell_types.specs.Value.{value_view}
 use Rattle.cell_types.specs.Rows.{values_at}
 use Rattle.value_rows.specs.ValueRows.{rows_of}
 use Rattle.value_rows.proofs.rows.ValueRows.picked.Given as goal
@@ -8,6 +7,6 @@ use Rattle.value_rows.proofs.rows.ValueRows.picked.Given as goal
 abbrev pub invariant-loop-number : goal.invariant-loop-number
 invariant-loop-number l = record {
   most : l.number ≤ length l.self.rows;
-  long : length l.values.items ≡ l.number * length l.places;
-  rows : rows_of (length l.places) l.number (map value_view l.values.items) ≡ map (values_at l.places) (take l.number l.self.rows);
+  long : length l.values ≡ l.number * length l.places;
+  rows : rows_of (length l.places) l.number l.values ≡ map (values_at l.places) (take l.number l.self.rows);
 }
