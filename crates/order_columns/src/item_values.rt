@@ -12,6 +12,7 @@ ghost use Rattle.row_eval.specs.Bounds.{NumbersFit};
 ghost use Rattle.order_columns.specs.Items.{column_of_item, expression_kind, table_column as table_column_of, KeepsMore, OrderAsItems, PushesValues};
 ghost use Rattle.order_columns.specs.Plain.{AreItemColumns, IsPlainColumn};
 
+use crate::front::FrontGuess;
 use crate::plain::{PlainItem, is_repeated};
 use cell_types::{ColumnKind, NumberKind, Value, owned};
 use odata_query::{OrderBy, PlainColumn, plain_column};
@@ -55,8 +56,12 @@ fn item_column(expression: &TypedExpr, place: usize, count: usize) -> PlainColum
     }
 }
 
-/// Returns the columns that decide: those that the items are.
-pub fn deciding_columns(alloc: Global, items: &[OrderBy]) -> Result<Vec<PlainItem>, AllocError>
+/// Returns the columns that decide: those that the items are. What their texts begin with is guessed.
+pub fn deciding_columns(
+    alloc: Global,
+    items: &[OrderBy],
+    guess: FrontGuess<'_>,
+) -> Result<Vec<PlainItem>, AllocError>
     ensures { IfOk result (λ made. OrderAsItems (map order_view items.now) made.items) }
 {
     let mut columns = Vec::with_capacity(alloc, items.len())?;
@@ -66,7 +71,12 @@ pub fn deciding_columns(alloc: Global, items: &[OrderBy]) -> Result<Vec<PlainIte
         }
         let column = item_column(&item.expression, place, items.len());
         let descending = item.descending;
-        columns.push(PlainItem { column, descending })?;
+        let front = guess.front(column, items.len());
+        columns.push(PlainItem {
+            column,
+            descending,
+            front,
+        })?;
     }
     Ok(columns)
 }

@@ -31,14 +31,8 @@ module _ (tests : List TestOf) (summaries : List (List RangeOf)) (i : ℕ) (rang
   one_more : filter (λ n. ranges_admit tests (slice_index_or summaries n [])) (range_with_len 0 (i + 1)) ≡ numbers ++ cond (ranges_admit tests ranges) (i ∷ []) []
   one_more =
       let p : ℕ → Bool = λ n. ranges_admit tests (slice_index_or summaries n []) in
-      rw (
-        ← (map-id (range_with_len 0 (i + 1))),
-        filter_of_map_range_with_len_more p (λ n. n) 0 i i (omega arith),
-        map-id (range_with_len 0 i),
-        ← so_far,
-        get_or_default summaries i [] ranges inside,
-        ← at,
-      ) refl
+      rw (← (map-id (range_with_len 0 (i + 1))), filter_of_map_range_with_len_more p (λ n. n) 0 i i (omega arith))
+      (rw (map-id (range_with_len 0 i), ← so_far, get_or_default summaries i [] ranges inside, ← at) refl)
 
   pub one_admitted : ranges_admit tests ranges ≡ true → AreAdmitted tests summaries (i + 1) (numbers ++ i ∷ [])
   one_admitted is = rw (one_more, is) refl

@@ -30,11 +30,8 @@ passed_count [] rows kept is = let same : rows ≡ kept = cc in ap length (sym s
 passed_count (e ∷ es) rows kept is =
     let both : List CellValue → Bool = λ r. passes e r && passes_each es r in
     option_and_then_some (passing_all es) (passing e rows) kept is (λ mid some rest.
-    passed_count es mid kept rest ∙ rw (
-      ← (cond-None_some (list_any (faults e) rows) (filter (passes e) rows) mid some),
-      ← (length-filter (passes_each es) (filter (passes e) rows)),
-      ← (length-filter both rows),
-    ) (ap length (filter-filter (passes e) (passes_each es) rows)))
+    passed_count es mid kept rest ∙ rw (← (cond-None_some (list_any (faults e) rows) (filter (passes e) rows) mid some))
+    (rw (← (length-filter (passes_each es) (filter (passes e) rows)), ← (length-filter both rows)) (ap length (filter-filter (passes e) (passes_each es) rows))))
 
 -- no more rows pass than there are, whichever columns are picked of them
 pub few_pass : (es : List TruthExprOf) (picked : Option (List ℕ)) (rows kept : List (List CellValue)) → option_map (selected_rows picked) (passing_all es rows) ≡ Some kept

@@ -1,24 +1,21 @@
 -- An order at the end of the steps, and the rows as they stood before it.
 use Rattle.std.proofs.Common.{◌≡◌, ℕ, true, Option, Some, None, List, [], ◌∷◌, ◌++◌, map, append_assoc, inl, inr, refl, sym, ap, ◌∙◌}
-use Rattle.std.specs.Prelude.{option_and_then, option_map}
+use Rattle.std.specs.Prelude.{option_and_then}
 use Rattle.std.specs.List.{list_any}
 use Rattle.std.proofs.lemmas.Bool.{cases_Bool}
 use Rattle.query_meaning.specs.Apply.{names_at, values_at}
 use Rattle.std.proofs.lemmas.List.Sorted.{IsPermutation-map, IsPermutation-refl}
 use Rattle.cell_types.proofs.CaseLaws.{cond-None_some}
-use Rattle.cell_types.specs.Value.{CellValue}
 use Rattle.typed_trees.specs.TypedTree.{TruthExprOf}
 use Rattle.query_meaning.specs.Laws.{RowsAreInOrder}
 use Rattle.query_meaning.specs.Order.{Item, order_faults, ordered, rows_cmp, sorted}
 use Rattle.query_plan.specs.Plan.{NodeOf, PlanOf, filtering, node_result, node_view, nodes_result, projecting, select_nodes, sorting, table_result}
-use Rattle.block_filter.specs.Conditions.{passing_all}
 use Rattle.result_rows.specs.Rows.{AreReordered, OrderedOf, RowsOf}
 use Rattle.table_store.specs.Table.{TableOf}
 use Rattle.query_exec.specs.declared.run.Run.{Run}
 use Rattle.query_exec.specs.Answer.{before_order, only_select, unless_order, unordered_answer}
 use Rattle.query_exec.specs.Conditions.{condition_nodes}
 use Rattle.result_rows.specs.Kept.{kept_names}
-use Rattle.result_rows.specs.Selected.{selected_rows}
 use Rattle.query_exec.specs.Run.{conditions_of, passed_answer, passed_rows, places_of, steps_of, HasPassed, HasTakenBlocks, IsUnordered, KeepsUnordered}
 use Rattle.query_exec.specs.Sink.{sink_kept, sink_nodes, SinkEnds}
 use Rattle.query_exec.specs.Steps.{without_count}
@@ -62,12 +59,8 @@ unordered_is run plan table blocks has none =
     let all = read_rows plan table in
     let r = table_result table.schema all in
     let nodes = before_order (sink_nodes run.sink) in
-    let made : List (List ℕ) → List (List CellValue) → Option RowsOf = λ names rows. nodes_result nodes (without_count names rows) in
     ap (λ ns. nodes_result (before_order ns) r) (sym has.plan_is)
-    ∙ ap (λ steps. nodes_result (before_order (condition_nodes es ++ select_nodes picked ++ steps)) r) (no_steps run none)
-    ∙ ap (λ ns. nodes_result ns r) (before_sink es picked (sink_nodes run.sink))
-    ∙ parts_give es picked nodes r all
-    ∙ ap (λ names. option_and_then (made names) (option_map (selected_rows picked) (passing_all es all))) (sym has.columns.names_are)
+    ∙ rw (no_steps run none, before_sink es picked (sink_nodes run.sink), has.columns.names_are) (parts_give es picked nodes r all)
 
 -- ---- at the end
 

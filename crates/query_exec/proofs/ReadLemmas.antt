@@ -1,6 +1,6 @@
 -- What a run has that was handed the first of the blocks that are needed.
-use Rattle.std.proofs.Common.{◌≡◌, ℕ, ◌+◌, Option, Some, None, List, [], ◌++◌, map, drop, take, refl, sym, ap, ◌∙◌, subst, arith, append-nil}
-use Rattle.std.specs.Prelude.{option_and_then, option_map, slice_get}
+use Rattle.std.proofs.Common.{◌≡◌, ℕ, ◌+◌, Some, None, List, [], ◌++◌, map, drop, take, refl, sym, ap, ◌∙◌, subst, arith, append-nil}
+use Rattle.std.specs.Prelude.{option_map, slice_get}
 use Rattle.std.proofs.lemmas.List.{drop-drop, get_or_append_left, length-append, take-append-drop}
 use Rattle.std.proofs.lemmas.List.Concat.{flat_map-append}
 use Rattle.block_summary.specs.Blocks.{block_at}
@@ -10,7 +10,6 @@ use Rattle.table_store.specs.Block.{block_of}
 use Rattle.table_store.specs.Table.{TableOf}
 use Rattle.query_plan.specs.Fitting.{NodesFit}
 use Rattle.query_meaning.specs.Fitting.{AreTableRows}
-use Rattle.query_meaning.specs.Meaning.{ResultOf}
 use Rattle.query_plan.specs.Laws.{NodesInTurn, ScansReadTableRows}
 use Rattle.query_plan.specs.Plan.{PlanOf, leading, needed, node_view, nodes_result, table_result}
 use Rattle.query_plan.specs.Scan.{rows_of_blocks, up_to}
@@ -123,7 +122,4 @@ answer_is run plan table blocks has =
     let picked = places_of run in
     let all = read_rows plan table in
     let r = table_result table.schema all in
-    let kept : List (List ℕ) → List (List CellValue) → Option ResultOf = λ names rows. nodes_result (steps_of run) (without_count names rows) in
-    ap (λ ns. nodes_result ns r) (sym has.plan_is)
-    ∙ parts_give es picked (steps_of run) r all
-    ∙ ap (λ names. option_and_then (kept names) (option_map (selected_rows picked) (passing_all es all))) (sym has.columns.names_are)
+    ap (λ ns. nodes_result ns r) (sym has.plan_is) ∙ rw has.columns.names_are (parts_give es picked (steps_of run) r all)

@@ -164,7 +164,7 @@ impl Run {
             mut steps,
         } = split(alloc, nodes)?;
         let kept = Kept::new(alloc, schema, places)?;
-        let sink = Sink::of(alloc, kept, &mut steps)?;
+        let sink = Sink::of(alloc, kept, &mut steps, summaries)?;
         Ok(Run {
             left,
             room: scan.stop,

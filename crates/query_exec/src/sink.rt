@@ -14,7 +14,9 @@ use crate::slice::SliceSink;
 use crate::sorted::SortedSink;
 use crate::top_n::{TopNSink, none_can_fault};
 use block_filter::Passed;
+use block_summary::Summary;
 use odata_query::OrderBy;
+use order_columns::FrontGuess;
 use query_plan::{Node, Slice};
 use result_rows::{Kept, OrderedRows};
 use row_eval::EvalFault;
@@ -72,7 +74,7 @@ fn take_shown(alloc: Global, kept: &Kept, steps: &mut Vec<Node>) -> Result<Optio
 
 impl Sink {
     /// Takes out the first of some steps if a sink does it, and what the sink does of those after it, and returns that sink; else a sink of all rows.
-    pub(crate) fn of(alloc: Global, kept: Kept, steps: &mut Vec<Node>) -> Result<Sink, AllocError>
+    fn of_steps(alloc: Global, kept: Kept, steps: &mut Vec<Node>) -> Result<Sink, AllocError>
         requires none { kept.columns.rows ≡ [] }
         requires width { length kept.columns.kinds ≡ length (kept_names kept) }
         requires fit { NodesFit (map node_view steps.old.items)
@@ -131,7 +133,7 @@ impl Sink {
             }
             Some(_) | None => {}
         }
-        let runs = SortedRuns::new(alloc, &items)?;
+        let runs = SortedRuns::new(alloc, &items, FrontGuess::none())?;
         let slice = take_slice(steps);
         let shown = take_shown(alloc, &kept, steps)?;
         Ok(Sink::Sorted(SortedSink {
@@ -142,6 +144,42 @@ impl Sink {
             most,
             slice,
         }))
+    }
+
+    /// Guesses by the summaries of all blocks what the texts begin with that are put in order. No row was taken in.
+    fn guess(&mut self, alloc: Global, summaries: &[Summary]) -> Result<(), AllocError>
+        requires { HasPushed self.old [] }
+        ensures nodes { sink_nodes self.new ≡ sink_nodes self.old }
+        ensures kept { sink_kept self.new ≡ sink_kept self.old }
+        ensures none { OnOk result (HasPushed self.new []) }
+    {
+        if let Sink::Sorted(sink) = self {
+            let guess = FrontGuess::of(summaries, sink.kept.places.as_deref());
+            sink.runs = SortedRuns::new(alloc, &sink.items, guess)?;
+        }
+        Ok(())
+    }
+
+    /// Takes out the first of some steps if a sink does it, and what the sink does of those after it, and returns that sink; else a sink of all rows. The summaries
+    /// are those of all blocks.
+    pub(crate) fn of(
+        alloc: Global,
+        kept: Kept,
+        steps: &mut Vec<Node>,
+        summaries: &[Summary],
+    ) -> Result<Sink, AllocError>
+        requires none { kept.columns.rows ≡ [] }
+        requires width { length kept.columns.kinds ≡ length (kept_names kept) }
+        requires fit { NodesFit (map node_view steps.old.items)
+            (without_count (kept_names kept) []) }
+        ensures nodes { IfOk result (λ sink.
+            sink_nodes sink ++ map node_view steps.new.items ≡ map node_view steps.old.items) }
+        ensures kept { IfOk result (λ sink. sink_kept sink ≡ kept) }
+        ensures none { IfOk result (λ sink. HasPushed sink []) }
+    {
+        let mut sink = Sink::of_steps(alloc, kept, steps)?;
+        sink.guess(alloc, summaries)?;
+        Ok(sink)
     }
 
     /// Returns how many more rows it takes in by their numbers, if that is limited: of the others it takes in how many they are.

@@ -3,6 +3,7 @@ pub mod ItemLemmas
 pub mod SortingLemmas
 pub mod KeyedLemmas
 pub mod PrefixLemmas
+pub mod FrontLemmas
 pub mod TextKeyLemmas
 pub mod NumberLemmas
 pub mod BestLemmas

@@ -13,7 +13,7 @@ pub loop-item-preserved : goal.loop-item-preserved
 loop-item-preserved c =
     let columns = c.args.columns.now in
     let i = c.loop-item.item-index in
-    let d : PlainItem = record { column = plain_at Text 0; descending = false } in
+    let d : PlainItem = record { column = plain_at Text 0; descending = false; front = record { bytes = []; len = 0 } } in
     let p : PlainItem = get_or columns i d in
     let made : OrderBy = record { expression = c.in_ok-expression.expression; descending = p.descending } in
     let pushed : c.push.new.self.items ≡ c.loop-item.items.items ++ made ∷ [] = search rules in

@@ -28,7 +28,7 @@ loop-place-preserved c =
     let front = map order_view (take i items) in
     let at : get_or items i item ≡ item = search rules in
     let next = map_more order_view items i item c.loop-place-test.true ∙ ap (λ x. front ++ order_view x ∷ []) at in
-    let p : PlainItem = record { column = c.item_column-column.result; descending = item.descending } in
+    let p : PlainItem = record { column = c.item_column-column.result; descending = item.descending; front = c.front-front.result } in
     let pushed : c.push.new.self.items ≡ c.loop-place.columns.items ++ p ∷ [] = search rules in
     let long : length items ≡ length all = sym (length-map items order_view) in
     let column : c.item_column-column.result ≡ column_of_item (length all) i (order_view item).0 =

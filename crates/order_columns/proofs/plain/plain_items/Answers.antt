@@ -26,7 +26,7 @@ loop-place-preserved c =
     let front = map order_view (take i items) in
     let at : get_or items i item ≡ item = search rules in
     let next = map_more order_view items i item c.loop-place-test.true ∙ ap (λ x. front ++ order_view x ∷ []) at in
-    let p : PlainItem = record { column = c.in-Some.column; descending = item.descending } in
+    let p : PlainItem = record { column = c.in-Some.column; descending = item.descending; front = c.none-front.result } in
     let pushed : c.push.new.self.items ≡ c.loop-place.plain.items ++ p ∷ [] = search rules in
     let more = columns_more front c.loop-place.plain.items (order_view item) p c.loop-place.invariant c.in-Some.ensures (search rules) in
     subst (λ l. AreItemColumns l c.push.new.self.items) (sym next) (subst (λ ps. AreItemColumns (front ++ order_view item ∷ []) ps) (sym pushed) more)

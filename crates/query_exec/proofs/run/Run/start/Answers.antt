@@ -40,13 +40,8 @@ returns-clause-stands c = λ table schema rows summaries.
         fits = rw schema c.requires;
         are_rows = are_rows table rows;
         reads = refl;
-        left_are =
-            rw (
-              ← parts.ensures.conditions,
-              c.in_ok-left.ensures,
-              c.deref.ensures.value,
-              admitted_are c.one_range.ensures (plan_view c.args.plan).scan.tests table c.args.summaries.now rows summaries,
-            ) refl;
+        left_are = rw (← parts.ensures.conditions, c.in_ok-left.ensures, c.deref.ensures.value)
+            (rw (admitted_are c.one_range.ensures (plan_view c.args.plan).scan.tests table c.args.summaries.now rows summaries) refl);
         columns = rw (sink.ensures.kept, schema) c.in_ok-kept.ensures.columns;
         passed = record { faulted = rw none refl; pushed = rw (none, selected_none (kept_places (sink_kept sink.sink))) sink.ensures.none };
       };
