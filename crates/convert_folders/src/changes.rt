@@ -61,11 +61,11 @@ pub(crate) fn report_changes(report: &mut Report, file: &str, table: &str, made:
         made.returns,
         " line breaks are a CR alone, written as LF",
     );
-    report_count(report, file, made.blank, " empty lines are left out");
+    report_count(report, file, made.counts.blank, " empty lines are left out");
     report_count(
         report,
         file,
-        made.padded,
+        made.counts.short,
         " rows are filled with empty cells",
     );
     let columns = made.columns.iter();

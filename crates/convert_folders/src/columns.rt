@@ -1,7 +1,8 @@
 //! What is changed in a column.
 use crate::forms::form_words;
 use crate::report::{About, Report, Status};
-use file_convert::{ColumnReport, NULLS, ReportKind};
+use file_convert::{ColumnReport, ReportKind};
+use file_sights::NULLS;
 use std::str::from_utf8;
 
 /// Returns bytes of a cell as a text.

@@ -1,6 +1,7 @@
 //! The conversion of a folder's files into a new folder that is served.
 use crate::changes::report_changes;
 use crate::metadata::{fit_schema, metadata_of};
+use crate::passes::{PassFault, found_in, write};
 use crate::places::{table_of, tables_in};
 use crate::progress::show;
 use crate::publish::Half;
@@ -10,10 +11,11 @@ use crate::rules::{ColumnRule, rules_in, rules_of};
 use crate::warnings::report_warnings;
 use csvw_meta::{Limits, Schema};
 use draft_args::Conversion;
-use file_convert::{ConvertOptions, Converted, Rule, convert};
+use file_convert::{ColumnReport, ConvertOptions, Converted, Rule};
+use file_sights::guess_text;
 use schema_inference::{Aims, DraftFault, Guess, guess_of};
-use served_folders::read_plain;
-use std::io;
+use std::io::{self, ErrorKind};
+use std::mem::replace;
 use std::rt::Files;
 use std::slice::from_ref;
 use table_store::NamedFile;
@@ -30,17 +32,20 @@ fn refuse_for(rt: &HostRuntime, line: &str) -> io::Result<u8> {
     Ok(REFUSED)
 }
 
-/// The tables that are written: their files, the names of the files from which they come, and their schemas.
+/// The tables that are written: the names of their files, those of the files from which they come, and their schemas.
 #[derive(Drop)]
 struct Tables {
-    files: Vec<NamedFile>,
+    names: Vec<String>,
     titles: Vec<String>,
     schemas: Vec<Schema>,
+    /// How many bytes the files have.
+    bytes: usize,
 }
 
-/// What is converted so far.
+/// What is converted so far, and the folder into which it is written.
 #[derive(Drop)]
 struct Folder {
+    half: Half,
     tables: Tables,
     report: Report,
     /// How many files are refused.
@@ -65,10 +70,20 @@ fn guess_file(rt: &HostRuntime, file: &NamedFile) -> io::Result<Guess> {
     Ok(guess_of(rt.alloc(), aims, from_ref(file))?)
 }
 
-/// Returns a file with a name.
-fn named(rt: &HostRuntime, name: &str, bytes: Vec<u8>) -> io::Result<NamedFile> {
-    let name = String::from_str(rt.alloc(), name)?;
-    Ok(NamedFile { name, bytes })
+/// Returns what a draft guesses of a file that is converted.
+fn guess_written(
+    rt: &HostRuntime,
+    written: &NamedFile,
+    columns: &[ColumnReport],
+) -> io::Result<Guess> {
+    match guess_text(rt.alloc(), columns, written.bytes.as_slice()) {
+        Ok(Some(bytes)) => {
+            let name = String::from_str(rt.alloc(), written.name.as_str())?;
+            guess_file(rt, &NamedFile { name, bytes })
+        }
+        Ok(None) => guess_file(rt, written),
+        Err(_) => Err(io::Error::from(ErrorKind::OutOfMemory)),
+    }
 }
 
 /// Adds a file that is converted, under the name that it gets.
@@ -76,35 +91,49 @@ fn add_converted(
     rt: &HostRuntime,
     folder: &mut Folder,
     names: (&str, &str),
-    converted: Converted,
+    converted: &Converted,
 ) -> io::Result<()> {
     let (file, name) = names;
-    report_changes(&mut folder.report, file, table_of(name), &converted);
-    let Converted {
-        columns,
-        bytes,
-        guess: sample,
-        ..
-    } = converted;
-    show(rt, file, bytes.len(), "drafting the metadata")?;
-    let written = named(rt, name, bytes)?;
-    let mut guess = match sample {
-        Some(bytes) => guess_file(rt, &named(rt, name, bytes)?)?,
-        None => guess_file(rt, &written)?,
-    };
+    report_changes(&mut folder.report, file, table_of(name), converted);
+    let columns = converted.columns.as_slice();
+    let written = folder.half.read(rt, name)?;
+    show(rt, file, written.bytes.len(), "drafting the metadata")?;
+    let mut guess = guess_written(rt, &written, columns)?;
     if let Some(schema) = guess.schemas.first_mut() {
-        fit_schema(rt.alloc(), schema, columns.as_slice())?;
+        fit_schema(rt.alloc(), schema, columns)?;
     }
-    report_warnings(&mut folder.report, &guess, columns.as_slice(), &written);
+    report_warnings(&mut folder.report, &guess, columns, &written);
     if let Some(schema) = guess.schemas.pop() {
-        folder
-            .tables
-            .titles
-            .push(String::from_str(rt.alloc(), file)?)?;
-        folder.tables.schemas.push(schema)?;
-        folder.tables.files.push(written)?;
+        let tables = &mut folder.tables;
+        tables.names.push(String::from_str(rt.alloc(), name)?)?;
+        tables.titles.push(String::from_str(rt.alloc(), file)?)?;
+        tables.schemas.push(schema)?;
+        tables.bytes = tables.bytes.saturating_add(written.bytes.len());
     }
     Ok(())
+}
+
+/// Writes a file of the folder.
+fn write_file(
+    rt: &HostRuntime,
+    asked: &ConvertOptions<'_>,
+    half: &Half,
+    path: &str,
+    names: (&str, &str),
+) -> Result<Converted, PassFault> {
+    let (file, name) = names;
+    let length = std::fs::metadata(rt, path)?.len() as usize;
+    show(rt, file, length, "reading")?;
+    let found = found_in(rt, path, asked)?;
+    show(rt, file, length, "converting")?;
+    let to = half.create(rt, name)?;
+    match write(rt, path, asked, found, to) {
+        Ok(converted) => Ok(converted),
+        Err(fault) => {
+            half.drop_file(rt, name)?;
+            Err(fault)
+        }
+    }
 }
 
 /// Converts a file of the folder.
@@ -117,19 +146,16 @@ fn convert_file(
 ) -> io::Result<()> {
     let (file, name) = names;
     let path = format!(in rt.alloc(); "{}/{file}", asks.folder)?;
-    let length = std::fs::metadata(rt, path.as_str())?.len() as usize;
-    show(rt, file, length, "reading")?;
-    let bytes = read_plain(rt.alloc(), rt, path.as_str(), true)?;
-    show(rt, file, length, "converting")?;
     let rules = rules_of(rt.alloc(), rules, table_of(name))?;
     let asked = asks_of(asks, rules.as_slice());
-    match convert(rt.alloc(), &asked, bytes) {
-        Ok(converted) => add_converted(rt, folder, names, converted),
-        Err(fault) => {
+    match write_file(rt, &asked, &folder.half, path.as_str(), names) {
+        Ok(converted) => add_converted(rt, folder, names, &converted),
+        Err(PassFault::Refused(fault)) => {
             folder.refused = folder.refused.saturating_add(1);
             report_refusal(&mut folder.report, file, &fault);
             Ok(())
         }
+        Err(PassFault::Device(error)) => Err(error),
     }
 }
 
@@ -144,80 +170,87 @@ fn refuse_metadata(rt: &HostRuntime, fault: &DraftFault) -> io::Result<u8> {
 }
 
 /// Returns the metadata of the tables, which is checked with their files.
-fn checked_metadata(rt: &HostRuntime, tables: Tables) -> Result<Vec<u8>, DraftFault> {
-    let Tables {
-        files,
-        titles,
-        schemas,
-    } = tables;
-    let tables = (schemas.as_slice(), titles.as_slice());
-    metadata_of(rt.alloc(), Limits::greatest(), tables, files)
+fn checked_metadata(
+    rt: &HostRuntime,
+    asks: &Conversion<'_>,
+    half: &Half,
+    tables: &Tables,
+) -> io::Result<Result<Vec<u8>, DraftFault>> {
+    show(rt, asks.out, tables.bytes, "checking")?;
+    let mut files = Vec::new(rt.alloc());
+    for name in &tables.names {
+        files.push(half.read(rt, name.as_str())?)?;
+    }
+    let tables = (tables.schemas.as_slice(), tables.titles.as_slice());
+    Ok(metadata_of(rt.alloc(), Limits::greatest(), tables, files))
 }
 
-/// Writes what is converted into a new folder, and returns the exit status. The files are written first, since the check of the metadata consumes them.
-fn write_folder(rt: &HostRuntime, asks: &Conversion<'_>, tables: Tables) -> io::Result<u8> {
-    let mut bytes = 0usize;
-    for file in tables.files.as_slice() {
-        bytes = bytes.saturating_add(file.bytes.len());
-    }
-    show(rt, asks.out, bytes, "writing")?;
-    let half = Half::of_files(rt, asks.out, tables.files.as_slice())?;
-    show(rt, asks.out, bytes, "checking")?;
-    match checked_metadata(rt, tables) {
-        Ok(text) => half.publish(rt, asks.out, text.as_slice())?,
-        Err(fault) => {
-            half.remove(rt);
-            return refuse_metadata(rt, &fault);
+/// Writes the metadata of what is converted, and gives the new folder its name, or removes it if nothing is to be written. Returns the exit status.
+fn publish(rt: &HostRuntime, asks: &Conversion<'_>, half: Half, tables: &Tables) -> io::Result<u8> {
+    let made = checked_metadata(rt, asks, &half, tables);
+    match &made {
+        Ok(Ok(text)) if !asks.dry_run => {
+            half.publish(rt, asks.out, text.as_slice())?;
+            if !asks.json {
+                println!(rt; "wrote {}", asks.out)?;
+            }
         }
+        _ => half.remove(rt),
     }
-    if !asks.json {
-        println!(rt; "wrote {}", asks.out)?;
-    }
-    Ok(DONE)
-}
-
-/// Returns the exit status of a conversion that writes nothing.
-fn try_folder(rt: &HostRuntime, tables: Tables) -> io::Result<u8> {
-    match checked_metadata(rt, tables) {
+    match made? {
         Ok(_) => Ok(DONE),
         Err(fault) => refuse_metadata(rt, &fault),
     }
 }
 
-/// Converts the files of a folder that are there, and reports and writes them.
+/// Converts the files of a folder that are there, and reports what is changed.
+fn convert_into(
+    rt: &HostRuntime,
+    asks: &Conversion<'_>,
+    rules: &[ColumnRule<'_>],
+    folder: &mut Folder,
+) -> io::Result<()> {
+    for (file, name) in &tables_in(rt, asks.folder)? {
+        let names = (file.as_str(), name.as_str());
+        convert_file(rt, asks, rules, folder, names)?;
+    }
+    let report = replace(&mut folder.report, Report::new(rt.alloc(), asks.json));
+    report.print(rt)
+}
+
+/// Converts the files of a folder that are there into a new one.
 fn convert_files(
     rt: &HostRuntime,
     asks: &Conversion<'_>,
     rules: &[ColumnRule<'_>],
 ) -> io::Result<u8> {
     let mut folder = Folder {
+        half: Half::new(rt, asks.out)?,
         tables: Tables {
-            files: Vec::new(rt.alloc()),
+            names: Vec::new(rt.alloc()),
             titles: Vec::new(rt.alloc()),
             schemas: Vec::new(rt.alloc()),
+            bytes: 0,
         },
         report: Report::new(rt.alloc(), asks.json),
         refused: 0,
     };
-    for (file, name) in &tables_in(rt, asks.folder)? {
-        let names = (file.as_str(), name.as_str());
-        convert_file(rt, asks, rules, &mut folder, names)?;
+    if let Err(error) = convert_into(rt, asks, rules, &mut folder) {
+        folder.half.remove(rt);
+        return Err(error);
     }
     let Folder {
+        half,
         tables,
-        report,
         refused,
+        ..
     } = folder;
-    report.print(rt)?;
     if refused > 0 && !asks.skip {
+        half.remove(rt);
         eprintln!(rt; "refused: {refused} files: --skip-refused converts the others")?;
         return Ok(REFUSED);
     }
-    if asks.dry_run {
-        try_folder(rt, tables)
-    } else {
-        write_folder(rt, asks, tables)
-    }
+    publish(rt, asks, half, &tables)
 }
 
 /// Returns the text of the file of `--columns`.

@@ -7,6 +7,8 @@ mod columns;
 mod convert;
 mod forms;
 mod metadata;
+mod passes;
+mod pieces;
 mod places;
 mod progress;
 mod proposals;

@@ -4,7 +4,8 @@ ghost use Rattle.schema_inference.specs.Draft.{IsDraft};
 
 use cell_types::{Column, Datatype};
 use csvw_meta::{Limits, Schema};
-use file_convert::{ColumnReport, NULLS, ReportKind};
+use file_convert::{ColumnReport, ReportKind};
+use file_sights::NULLS;
 use schema_inference::{DraftFault, accepted_text, table_json};
 use serde_json::Value;
 use std::alloc::{AllocError, Global};

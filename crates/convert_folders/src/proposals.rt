@@ -1,7 +1,8 @@
 //! What would be changed in a column if it were asked for.
 use crate::columns::{about, say_difference, text};
 use crate::report::{About, Report, Status};
-use file_convert::{ColumnReport, NULLS, ReportKind};
+use file_convert::{ColumnReport, ReportKind};
+use file_sights::NULLS;
 
 /// Ends a proposal.
 fn end_proposal(report: &mut Report, file: &str, column: &ColumnReport) {

@@ -7,9 +7,8 @@ use std::rt::Files;
 use table_store::NamedFile;
 
 /// Writes a new file, and has it reach its device.
-fn write_file(rt: &HostRuntime, folder: &str, name: &str, bytes: &[u8]) -> io::Result<()> {
-    let path = format!(in rt.alloc(); "{folder}/{name}")?;
-    let mut file = File::create_new(rt, path.as_str())?;
+fn write_file(rt: &HostRuntime, path: &str, bytes: &[u8]) -> io::Result<()> {
+    let mut file = File::create_new(rt, path)?;
     file.write_all(bytes)?;
     file.sync_all()
 }
@@ -25,29 +24,37 @@ fn without_slash(path: &str) -> &str {
     path.trim_end_matches('/')
 }
 
-/// Writes files into a folder.
-fn write_files(rt: &HostRuntime, folder: &str, files: &[NamedFile]) -> io::Result<()> {
-    for file in files {
-        write_file(rt, folder, file.name.as_str(), file.bytes.as_slice())?;
-    }
-    Ok(())
-}
-
 impl Half {
-    /// Makes a folder of files under another name beside a path. If a step fails, it is removed.
-    pub fn of_files(rt: &HostRuntime, out: &str, files: &[NamedFile]) -> io::Result<Half> {
+    /// Makes a folder without files under another name beside a path.
+    pub fn new(rt: &HostRuntime, out: &str) -> io::Result<Half> {
         let number = process::id(rt.process());
         let whole = without_slash(out);
         let path = format!(in rt.alloc(); "{whole}.{number}.half")?;
-        let half = Half { path };
-        rt.create_dir(half.path.as_str())?;
-        match write_files(rt, half.path.as_str(), files) {
-            Ok(()) => Ok(half),
-            Err(error) => {
-                half.remove(rt);
-                Err(error)
-            }
-        }
+        rt.create_dir(path.as_str())?;
+        Ok(Half { path })
+    }
+
+    /// Returns the path of a file of the folder.
+    fn path_of(&self, rt: &HostRuntime, name: &str) -> io::Result<String> {
+        Ok(format!(in rt.alloc(); "{}/{name}", self.path)?)
+    }
+
+    /// Makes a file.
+    pub fn create(&self, rt: &HostRuntime, name: &str) -> io::Result<File> {
+        File::create_new(rt, self.path_of(rt, name)?.as_str())
+    }
+
+    /// Removes a file.
+    pub fn drop_file(&self, rt: &HostRuntime, name: &str) -> io::Result<()> {
+        fs::remove_file(rt, self.path_of(rt, name)?.as_str())
+    }
+
+    /// Returns a file that is written.
+    pub fn read(&self, rt: &HostRuntime, name: &str) -> io::Result<NamedFile> {
+        Ok(NamedFile {
+            name: String::from_str(rt.alloc(), name)?,
+            bytes: fs::read(rt, self.path_of(rt, name)?.as_str())?,
+        })
     }
 
     /// Removes the folder.
@@ -57,8 +64,8 @@ impl Half {
 
     /// Writes the metadata, and gives the folder its name.
     fn finish(&self, rt: &HostRuntime, out: &str, metadata: &[u8]) -> io::Result<()> {
+        write_file(rt, self.path_of(rt, METADATA)?.as_str(), metadata)?;
         let path = self.path.as_str();
-        write_file(rt, path, METADATA, metadata)?;
         fs::open(rt, path)?.sync_all()?;
         rt.rename(path, without_slash(out))
     }

@@ -33,6 +33,7 @@ pub(crate) fn report_refusal(report: &mut Report, file: &str, fault: &ConvertFau
     match fault {
         ConvertFault::NotUtf16 => report.say("it begins as UTF-16, and is not UTF-16"),
         ConvertFault::NoText => report.say("it has NUL bytes, so it is no text"),
+        ConvertFault::Changed => report.say("it has changed while it was converted"),
         ConvertFault::Empty => report.say("it is empty"),
         ConvertFault::NoMemory => report.message.is_short = true,
         ConvertFault::Text { fault, line } => {

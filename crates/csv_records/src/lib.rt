@@ -3,6 +3,7 @@
 
 mod exchanges;
 mod fault;
+mod feeds;
 mod laws;
 mod lines;
 mod read;
@@ -10,7 +11,8 @@ mod write;
 
 pub use exchanges::exchange;
 pub use fault::RecordFault;
+pub use feeds::LineFeeds;
 pub use laws::{rows_read_back, worked_exchanges};
-pub use lines::{after_lines, with_line_feeds};
+pub use lines::after_lines;
 pub use read::{Record, RecordCell, push_cell, read_record};
 pub use write::push_row;

@@ -1,10 +1,8 @@
 //! The lines of a text.
-ghost use Rattle.std.specs.Prelude.{◌≡◌, ◌==◌, ◌≤◌, IfOk, IfSome, MatchOption, [], ◌∷◌, false, length};
+ghost use Rattle.std.specs.Prelude.{◌≡◌, ◌==◌, ◌≤◌, MatchOption, [], ◌∷◌, length};
 ghost use Rattle.std.specs.List.{after_first, position_or_len};
 ghost use Rattle.csv_grammar.specs.Bytes.{line_feed};
-ghost use Rattle.csv_records.specs.Lines.{after_lines, is_lone, with_feeds};
-
-use std::alloc::{AllocError, Global};
+ghost use Rattle.csv_records.specs.Lines.{after_lines};
 
 /// Returns the first byte of a text and the bytes after it; `None` if there is none.
 pub(crate) fn cut_first(text: &[u8]) -> Option<(u8, &[u8])>
@@ -15,33 +13,6 @@ pub(crate) fn cut_first(text: &[u8]) -> Option<(u8, &[u8])>
         Some((first, rest)) => Some((*first, rest)),
         None => None,
     }
-}
-
-/// Returns true if a byte is a CR outside double quotes, and no LF comes after it.
-fn is_lone(quoted: bool, byte: u8, rest: &[u8]) -> bool
-    ensures { result ≡ is_lone quoted byte rest.now }
-{
-    byte == b'\r' && !quoted && rest.first().copied() != Some(b'\n')
-}
-
-/// Returns a text with an LF in the place of each CR outside double quotes that no LF follows; and how many these are.
-pub fn with_line_feeds(alloc: Global, text: &[u8]) -> Result<(Vec<u8>, usize), AllocError>
-    ensures { IfOk result (λ made. made.0.items ≡ with_feeds false text.now) }
-{
-    let mut made = Vec::with_capacity(alloc, text.len())?;
-    let mut count: usize = 0;
-    let mut quoted = false;
-    let mut left = text;
-    while let Some((byte, rest)) = cut_first(left) {
-        left = rest;
-        let is_lone = is_lone(quoted, byte, rest);
-        made.push(if is_lone { b'\n' } else { byte })?;
-        count = count.saturating_add(usize::from(is_lone));
-        if byte == b'"' {
-            quoted = !quoted;
-        }
-    }
-    Ok((made, count))
 }
 
 /// Returns the number of bytes before the first LF.

@@ -1,12 +1,14 @@
 -- The rows of a table, one after another.
-use Rattle.std.proofs.Common.{◌≡◌, ◌∙◌, ℕ, ◌<◌, ◌≤◌, List, [], ◌∷◌, ◌++◌, length, map, ap, sym, subst, append_assoc, append-nil, inl, inr}
+use Rattle.std.proofs.Common.{◌≡◌, ◌∙◌, ℕ, ◌<◌, List, [], ◌∷◌, ◌++◌, length, map, ap, sym, subst, append_assoc, append-nil, inl, inr}
 use Rattle.std.proofs.lemmas.List.{map-append}
 use Rattle.csv_grammar.specs.Records.{Field, AreRecords}
 use Rattle.csv_records.specs.Exchange.{IsFirstRecord, exchanged, exchanged_content}
-use Rattle.csv_records.specs.Written.{AreRows, HaveCells, RowsReadBack, row_bytes, rows_bytes}
+use Rattle.csv_records.specs.Written.{HaveCells, RowsReadBack, row_bytes, rows_bytes}
 use Rattle.file_convert.specs.declared.table.Reading.{Reading}
-use Rattle.file_convert.specs.Conversion.{AreConverted, no_row, empty_line, next_row, IsWrittenFor, PutsRow, PutsRows}
-use Rattle.file_convert.specs.Rows.{Plan, AreTitled}
+use Rattle.text_encodings.specs.Decoders.{AddsText}
+use Rattle.file_convert.specs.Conversion.{AreConverted, no_row, empty_line, next_row, IsConvertedTable, PutsRow, PutsRows}
+use Rattle.file_convert.specs.Pieces.{PutsHeader}
+use Rattle.file_convert.specs.Rows.{Plan}
 use Rattle.file_convert.proofs.RecordLemmas.{first_more, no_records}
 
 -- what the records say
@@ -88,25 +90,25 @@ rows_done plans how text before now so = record {
   after_is = so.now_is;
 }
 
-pub table_written : (plans : List Plan) (how : Reading) (width : ℕ) (text rest : List ℕ) (header titles : List (List ℕ)) (before now after : List ℕ) → RowsReadBack
-    → IsFirstRecord how.separator (map (exchanged how.separator) text) header rest → 0 < length (map (exchanged how.separator) text) → width ≡ length header
-    → length header ≤ length plans → AreTitled plans header (length plans) titles → 0 < length titles → now ≡ before ++ row_bytes titles
-    → PutsRows plans (record how { width = width }) rest now after → IsWrittenFor plans how text before after
-table_written plans how width text rest header titles before now after law first long wide named titled some e puts = λ none.
-    record {
-      header = header;
-      rows = said how.separator puts.records;
-      read = record {
-        records = first.fields ∷ puts.records;
-        are = first_more how.separator (map (exchanged how.separator) text) header rest first long puts.records puts.are;
-        cells_are = ap (λ (l : List (List ℕ)). l ∷ said how.separator puts.records) first.cells_are;
-      };
-      titles = titles;
-      outs = puts.outs;
-      named = named;
-      titled = titled;
-      converted = subst (λ (n : ℕ). AreConverted plans how.pads n (said how.separator puts.records) puts.outs) wide puts.converted;
-      written = subst (λ (l : List ℕ). AreRows l (titles ∷ puts.outs))
-          (sym (puts.after_is ∙ ap (λ (l : List ℕ). l ++ rows_bytes puts.outs) (e ∙ ap (λ (l : List ℕ). l ++ row_bytes titles) none)))
-          (law.rows (titles ∷ puts.outs) (some, puts.have));
-    }
+pub table_written : (plans : List Plan) (how : Reading) (width : ℕ) (text rest before now after : List ℕ) → RowsReadBack
+    → PutsHeader plans how (map (exchanged how.separator) text) rest width before now → PutsRows plans (record how { width = width }) rest now after
+    → AddsText before after (IsConvertedTable plans how.pads how.separator text)
+table_written plans how width text rest before now after law h puts = (
+  rows_bytes (h.titles ∷ puts.outs),
+  puts.after_is ∙ (ap (λ (l : List ℕ). l ++ rows_bytes puts.outs) h.after_is ∙ append_assoc before (row_bytes h.titles) (rows_bytes puts.outs)),
+  record {
+    header = h.header;
+    rows = said how.separator puts.records;
+    read = record {
+      records = h.first.fields ∷ puts.records;
+      are = first_more how.separator (map (exchanged how.separator) text) h.header rest h.first h.long puts.records puts.are;
+      cells_are = ap (λ (l : List (List ℕ)). l ∷ said how.separator puts.records) h.first.cells_are;
+    };
+    titles = h.titles;
+    outs = puts.outs;
+    named = h.named;
+    titled = h.titled;
+    converted = subst (λ (n : ℕ). AreConverted plans how.pads n (said how.separator puts.records) puts.outs) h.width_is puts.converted;
+    written = law.rows (h.titles ∷ puts.outs) (h.some, puts.have);
+  },
+)

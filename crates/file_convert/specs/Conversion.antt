@@ -44,10 +44,10 @@ pub record IsSource (file : List ℕ) (encoding : Encoding) (fed : List ℕ) : T
   pub is_fed : fed ≡ with_feeds false text
 
 -- the bytes of a file are a text, and what is written is its table
-pub record IsConversion (asks : ConvertOptions) (file : List ℕ) (made : Converted) : Type 0 where
+pub record IsConversion (asks : ConvertOptions) (file made : List ℕ) (converted : Converted) : Type 0 where
   pub text : List ℕ
-  pub decoded : IsTextIn made.encoding file text
-  pub table : IsConvertedTable (map plan_of made.columns.items) asks.pads made.separator (kept_text asks.skip_lines text) made.bytes.items
+  pub decoded : IsTextIn converted.encoding file text
+  pub table : IsConvertedTable (map plan_of converted.columns.items) asks.pads converted.separator (kept_text asks.skip_lines text) made
 
 -- ---- row after row
 -- the bytes after those before are what the columns write for a record
@@ -65,8 +65,3 @@ pub record PutsRows (plans : List Plan) (how : Reading) (text before after : Lis
   pub converted : AreConverted plans how.pads how.width (map (map (exchanged_content how.separator)) records) outs
   pub have : HaveCells outs
   pub after_is : after ≡ before ++ rows_bytes outs
-
--- and for a whole text, if nothing was before
-abbrev pub IsWrittenFor : List Plan → Reading → List ℕ → List ℕ → List ℕ → Type 0
-IsWrittenFor plans how text before after =
-    before ≡ [] → IsConvertedTable plans how.pads how.separator text after

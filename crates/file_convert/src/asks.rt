@@ -56,7 +56,7 @@ fn add<'a>(wants: &mut Wants<'a>, what: What<'a>) {
 
 impl<'a> ConvertOptions<'a> {
     /// Returns what is asked for in a column by its header cell.
-    pub(crate) fn wants(&self, title: &str) -> Wants<'a> {
+    pub fn wants(&self, title: &str) -> Wants<'a> {
         let mut wants = Wants {
             text: false,
             round: self.rounds,

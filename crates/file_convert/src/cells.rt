@@ -9,7 +9,7 @@ use csv_records::{Record, RecordCell, RecordFault, read_record};
 use std::alloc::Global;
 
 /// Returns the record at the front of a text that is not empty; or why there is none, with its line.
-pub(crate) fn record_at(
+pub fn record_at(
     alloc: Global,
     separator: u8,
     text: &[u8],
@@ -36,7 +36,7 @@ pub(crate) fn cell_at<'a>(cells: &'a [RecordCell<'_>], place: usize) -> &'a [u8]
 }
 
 /// Returns true if cells are one that is empty, as an empty line has it.
-pub(crate) fn is_blank(cells: &[RecordCell<'_>]) -> bool
+pub fn is_blank(cells: &[RecordCell<'_>]) -> bool
     ensures { result ≡ is_empty_line (map cow_slice_items cells.now) }
 {
     match cells {
@@ -46,7 +46,7 @@ pub(crate) fn is_blank(cells: &[RecordCell<'_>]) -> bool
 }
 
 /// Returns the number of line breaks before the rest of a text.
-pub(crate) fn lines_before(text: &[u8], rest: &[u8]) -> usize {
+pub fn lines_before(text: &[u8], rest: &[u8]) -> usize {
     let (front, _) = text.split_at(text.len().saturating_sub(rest.len()));
     front.iter().filter(|byte| **byte == b'\n').count()
 }

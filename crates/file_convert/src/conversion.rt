@@ -1,119 +1,108 @@
-//! The conversion of a file.
-ghost use Rattle.std.specs.Prelude.{◌≡◌, [], IfOk, map};
-ghost use Rattle.csv_records.specs.Lines.{after_lines};
-ghost use Rattle.file_convert.specs.Conversion.{IsConversion, IsConvertedTable};
-ghost use Rattle.file_convert.specs.Rows.{plan_of};
+//! The conversion of a file in pieces.
+ghost use Rattle.std.specs.Prelude.{[], IfOk};
+ghost use Rattle.file_convert.specs.Pieces.{IsConverting, WritesEnd, WritesHeld, WritesPiece};
 
 use crate::asks::ConvertOptions;
 use crate::fault::ConvertFault;
-use crate::guess::guess_text;
-use crate::report::Converted;
-use crate::reports::reports_of;
-use crate::separator::separator_of;
-use crate::sight::{Sight, see_text};
-use crate::source::{Source, source_of};
-use crate::table::{Output, Reading, write_table};
-use crate::titles::{short_lines, title_lines};
-use csv_records::after_lines;
-use std::alloc::{AllocError, Global};
+use crate::report::{Converted, Counts, Found};
+use crate::source::FileText;
+use crate::stages::{Table, TableStage};
+use crate::table::Reading;
+use std::alloc::Global;
 
-/// Returns the fault of lines that look like a title, if there are such.
-fn title_fault(lines: usize, skipped: usize) -> Option<ConvertFault> {
-    if lines == 0 {
-        return None;
-    }
-    let lines = lines.saturating_add(skipped);
-    Some(ConvertFault::Title { lines })
+/// The conversion of a file that is read in pieces.
+#[derive(Drop)]
+pub struct FileConversion {
+    pub(crate) source: FileText,
+    pub(crate) table: Table,
+    /// How many bytes of text were held after the last piece that was used.
+    pub(crate) kept: usize,
+    pub(crate) counts: Counts,
 }
 
-/// Returns what is seen of a text, or why it is not converted.
-fn sight_of<'a>(
-    alloc: Global,
-    asks: &ConvertOptions<'_>,
-    separator: u8,
-    text: &'a [u8],
-) -> Result<Sight<'a>, ConvertFault> {
-    let skipped = asks.skip_lines;
-    let sight = match see_text(alloc, separator, text, skipped) {
-        Err(ConvertFault::Text { fault, line }) => {
-            let title = title_fault(short_lines(text, separator), skipped);
-            return Err(title.unwrap_or(ConvertFault::Text { fault, line }));
+impl FileConversion {
+    /// Begins with the first piece of a file whose columns are found. Nothing is written for it yet.
+    pub fn start(
+        alloc: Global,
+        asks: &ConvertOptions<'_>,
+        found: Found,
+        piece: &[u8],
+    ) -> Result<FileConversion, ConvertFault>
+        ensures { IfOk result (IsConverting asks.now piece.now []) }
+    {
+        let source = FileText::start(alloc, found.encoding, piece)?;
+        let how = Reading {
+            separator: found.separator,
+            width: 0,
+            pads: asks.pads,
+        };
+        let table = Table {
+            columns: found.columns,
+            how,
+            stage: TableStage::Lines,
+            skip_lines: asks.skip_lines,
+            line: asks.skip_lines.saturating_add(1),
+        };
+        Ok(FileConversion {
+            source,
+            table,
+            kept: 0,
+            counts: found.counts,
+        })
+    }
+
+    /// Writes what comes next of the text that is held.
+    fn step(&mut self, out: &mut Vec<u8>) -> Result<(), ConvertFault>
+        ensures { IfOk result (λ _. WritesHeld self.old self.new out.old.items out.new.items) }
+    {
+        let len = self.table.step(out, self.source.held.as_slice())?;
+        Ok(self.source.drop_front(len)?)
+    }
+
+    /// Writes what can be written of the text that is held: the rows of a table, after its header.
+    fn put_held(&mut self, out: &mut Vec<u8>) -> Result<(), ConvertFault>
+        ensures { IfOk result (λ _. WritesHeld self.old self.new out.old.items out.new.items) }
+    {
+        for _stage in 0..3 {
+            self.step(out)?;
         }
-        other => other?,
-    };
-    let lines = if sight.ragged > 0 {
-        short_lines(text, separator)
-    } else {
-        title_lines(text, separator)
-    };
-    if let Some(title) = title_fault(lines, skipped) {
-        return Err(title);
+        Ok(())
     }
-    if sight.ragged > 0 && !asks.pads {
-        return Err(ConvertFault::Ragged {
-            lines: sight.ragged_lines,
-            count: sight.ragged,
-        });
+
+    /// Reads the next piece, and appends what is written for it. A record that is not whole is not looked at again before there is twice as much of it.
+    pub fn feed(&mut self, piece: &[u8], out: &mut Vec<u8>) -> Result<(), ConvertFault>
+        ensures { IfOk result (λ _. WritesPiece self.old self.new piece.now
+            out.old.items out.new.items) }
+    {
+        self.source.feed(piece)?;
+        if self.source.held.len() / 2 < self.kept {
+            return Ok(());
+        }
+        self.put_held(out)?;
+        self.kept = self.source.held.len();
+        Ok(())
     }
-    Ok(sight)
-}
 
-/// Returns what is written so far, nothing, with room for a text.
-fn no_output(alloc: Global, text: &[u8]) -> Result<Output, AllocError>
-    ensures { IfOk result (λ out. out.bytes.items ≡ []) }
-{
-    let bytes = Vec::with_capacity(alloc, text.len())?;
-    Ok(Output { alloc, bytes })
-}
-
-/// Returns a source as a table of RFC 4180 in UTF-8 whose cells have forms that CSVW reads, and all that is changed in it; or why it is none.
-fn convert_source(
-    alloc: Global,
-    asks: &ConvertOptions<'_>,
-    source: &Source,
-) -> Result<Converted, ConvertFault>
-    ensures encoding { IfOk result (λ made. made.encoding ≡ source.now.encoding) }
-    ensures table { IfOk result (λ made. IsConvertedTable (map plan_of made.columns.items)
-        asks.now.pads made.separator (after_lines asks.now.skip_lines source.now.text.items)
-        made.bytes.items) }
-{
-    let text = after_lines(source.text.as_slice(), asks.skip_lines);
-    let separator = separator_of(text);
-    let sight = sight_of(alloc, asks, separator, text)?;
-    let mut columns = reports_of(alloc, asks, &sight, separator)?;
-    let how = Reading {
-        separator,
-        width: 0,
-        pads: asks.pads,
-    };
-    let none = no_output(alloc, text)?;
-    let line = asks.skip_lines.saturating_add(1);
-    let out = write_table(none, columns.as_mut_slice(), how, text, line)?;
-    Ok(Converted {
-        encoding: source.encoding,
-        separator,
-        skipped: asks.skip_lines,
-        returns: source.returns,
-        blank: sight.blank,
-        padded: sight.short,
-        columns,
-        rows: sight.rows,
-        bytes: out.bytes,
-        guess: None,
-    })
-}
-
-/// Returns a file as a table of RFC 4180 in UTF-8 whose cells have forms that CSVW reads, and all that is changed in it; or why it is none.
-pub fn convert(
-    alloc: Global,
-    asks: &ConvertOptions<'_>,
-    bytes: Vec<u8>,
-) -> Result<Converted, ConvertFault>
-    ensures { IfOk result (IsConversion asks.now bytes.items) }
-{
-    let source = source_of(alloc, bytes)?;
-    let mut made = convert_source(alloc, asks, &source)?;
-    drop(source);
-    made.guess = guess_text(alloc, made.columns.as_slice(), made.bytes.as_slice())?;
-    Ok(made)
+    /// Appends what is written for the rest of the file. Returns all that is changed in it.
+    pub fn end(self, out: &mut Vec<u8>) -> Result<Converted, ConvertFault>
+        ensures { IfOk result (λ converted.
+            WritesEnd self converted out.old.items out.new.items) }
+    {
+        let FileConversion {
+            source,
+            mut table,
+            counts,
+            ..
+        } = self;
+        let rest = source.end()?;
+        table.end(out, rest.text.as_slice())?;
+        Ok(Converted {
+            encoding: rest.encoding,
+            separator: table.how.separator,
+            skipped: table.skip_lines,
+            returns: rest.returns,
+            counts,
+            columns: table.columns,
+        })
+    }
 }

@@ -18,6 +18,8 @@ pub enum ConvertFault {
     Ragged { lines: Vec<usize>, count: usize },
     /// These lines before the header look like a title or comments.
     Title { lines: usize },
+    /// It has changed since it was looked at.
+    Changed,
     /// Memory ran out.
     NoMemory,
 }
@@ -32,6 +34,7 @@ impl From<EncodingFault> for ConvertFault {
     fn from(error: EncodingFault) -> ConvertFault {
         match error {
             EncodingFault::NotUtf16 => ConvertFault::NotUtf16,
+            EncodingFault::Another => ConvertFault::Changed,
             EncodingFault::NoMemory => ConvertFault::NoMemory,
         }
     }

@@ -15,14 +15,14 @@ use value_forms::{Form, Made, NumberForm, made_by};
 const TIME: &[u8] = b"_time";
 
 /// Returns true if the times of day of a column get one of their own.
-pub(crate) fn has_time(kind: ReportKind) -> bool
+pub fn has_time(kind: ReportKind) -> bool
     ensures { result ≡ has_time kind }
 {
     matches!(kind, ReportKind::Form(Form::DayAndTime(_)))
 }
 
 /// Returns true if a column is left out.
-pub(crate) fn is_dropped(kind: ReportKind) -> bool
+pub fn is_dropped(kind: ReportKind) -> bool
     ensures { result ≡ is_dropped kind }
 {
     matches!(kind, ReportKind::Empty)

@@ -1,4 +1,5 @@
 //! What is changed in a file, and what is proposed.
+use text_encodings::Encoding;
 use value_forms::Form;
 
 /// What is found in a column.
@@ -44,20 +45,34 @@ pub struct ColumnReport {
     pub place: usize,
 }
 
+/// What is found in a file before it is written.
+#[derive(Drop)]
+pub struct Found {
+    pub encoding: Encoding,
+    pub separator: u8,
+    /// Its columns, in which nothing is changed yet.
+    pub columns: Vec<ColumnReport>,
+    pub counts: Counts,
+}
+
+/// How many rows there are, how many empty lines, and how many rows with fewer cells than the header.
+#[derive(Clone, Copy)]
+pub struct Counts {
+    pub rows: usize,
+    pub blank: usize,
+    pub short: usize,
+}
+
 /// A file that is converted.
 #[derive(Drop)]
 pub struct Converted {
-    pub encoding: text_encodings::Encoding,
+    pub encoding: Encoding,
     pub separator: u8,
-    /// How many lines before the header are left out, how many line breaks are a CR alone, how many empty lines are left out, and how many rows got empty cells.
+    /// How many lines before the header are left out.
     pub skipped: usize,
+    /// How many line breaks are a CR alone.
     pub returns: usize,
-    pub blank: usize,
-    pub padded: usize,
+    /// Empty lines are left out, and short rows get empty cells.
+    pub counts: Counts,
     pub columns: Vec<ColumnReport>,
-    pub rows: usize,
-    /// What is written.
-    pub bytes: Vec<u8>,
-    /// The same with empty cells in the place of texts that stand for null and that a draft does not know.
-    pub guess: Option<Vec<u8>>,
 }

@@ -1,0 +1,2 @@
+mod DecodeLemmas
+mod Utf16Lemmas

@@ -1,5 +1,5 @@
 //! UTF-16, in either order of bytes.
-ghost use Rattle.std.specs.Prelude.{◌≡◌, IfOk, IfSome};
+ghost use Rattle.std.specs.Prelude.{◌≡◌, ◌≤◌, IfOk, IfSome, length};
 ghost use Rattle.text_encodings.specs.Encodings.{AreUnits, unit_of};
 
 use std::alloc::{AllocError, Global};
@@ -38,4 +38,23 @@ pub(crate) fn units_of(
         left = rest;
     }
     Ok(if left.is_empty() { Some(units) } else { None })
+}
+
+/// Returns the number of bytes of the units at the front of a text, without a last one that the next unit may make a pair with.
+pub(crate) fn whole_len(order: ByteOrder, bytes: &[u8]) -> usize
+    ensures { result ≤ length bytes.now }
+{
+    let len = bytes.len() - bytes.len() % 2;
+    if len == 0 {
+        return 0;
+    }
+    let high = match order {
+        ByteOrder::Little => bytes[len - 1],
+        ByteOrder::Big => bytes[len - 2],
+    };
+    if (0xD8..0xDC).contains(&high) {
+        len - 2
+    } else {
+        len
+    }
 }

@@ -12,7 +12,7 @@ use Rattle.file_convert.proofs.table.put_rows.Goals as goal
 pub loop-left-init : goal.loop-left-init
 loop-left-init c = record {
   plans = refl;
-  rows = no_row_so_far (map plan_of c.args.reports.now) c.args.how (map (exchanged c.args.how.separator) c.args.text.now) c.args.out.now.bytes.items;
+  rows = no_row_so_far (map plan_of c.args.reports.now) c.args.how (map (exchanged c.args.how.separator) c.args.text.now) c.args.out.now.items;
 }
 
 pub loop-left-preserved : goal.loop-left-preserved
@@ -20,8 +20,8 @@ loop-left-preserved c =
     let E : List ℕ → List ℕ = λ l. map (exchanged c.args.how.separator) l in
     let read = c.in_ok-read.read in
     let left = c.loop-left.left.now in
-    let now = c.loop-left.out.bytes.items in
-    let after = c.put_row.new.out.bytes.items in
+    let now = c.loop-left.out.items in
+    let after = c.put_row.new.out.items in
     let long : 0 < length (E left) =
     some_mapped (exchanged c.args.how.separator) left (sym c.is_empty.ensures ∙ c.loop-left-test.true) in
     let put : PutsRow (map plan_of c.loop-left.reports) c.args.how (said_cells c.as_slice.result.now) now after =
@@ -30,7 +30,7 @@ loop-left-preserved c =
     let P : List Plan → Type 0 = λ l. PutsRow l c.args.how (said_cells read.cells.items) now after in
     record {
       plans = c.put_row.ensures.plans ∙ c.loop-left.invariant.plans;
-      rows = row_more (map plan_of c.args.reports.now) c.args.how (E c.args.text.now) (E left) c.args.out.now.bytes.items now after (said_cells read.cells.items)
+      rows = row_more (map plan_of c.args.reports.now) c.args.how (E c.args.text.now) (E left) c.args.out.now.items now after (said_cells read.cells.items)
           (E read.rest.now) c.loop-left.invariant.rows long c.in_ok-read.ensures (subst P c.loop-left.invariant.plans (subst C c.as_slice.ensures.value put));
     }
 
@@ -55,6 +55,6 @@ returns-clause-rows c =
     let none : E left ≡ [] =
     ap E (no_items left (sym c.is_empty.ensures ∙ c.loop-left-test.false)) in
     let R : List ℕ → Type 0 =
-    λ l. RowsSoFar (map plan_of c.args.reports.now) c.args.how (E c.args.text.now) l c.args.out.now.bytes.items c.loop-left.out.bytes.items in
-    rows_done (map plan_of c.args.reports.now) c.args.how (E c.args.text.now) c.args.out.now.bytes.items c.loop-left.out.bytes.items
+    λ l. RowsSoFar (map plan_of c.args.reports.now) c.args.how (E c.args.text.now) l c.args.out.now.items c.loop-left.out.items in
+    rows_done (map plan_of c.args.reports.now) c.args.how (E c.args.text.now) c.args.out.now.items c.loop-left.out.items
     (subst R none c.loop-left.invariant.rows)

@@ -8,7 +8,7 @@ use Rattle.file_convert.proofs.table.put_rows.Given as goal
 abbrev pub invariant-loop-left : goal.invariant-loop-left
 invariant-loop-left l = record {
   plans : map plan_of l.reports ≡ map plan_of l.initial.reports;
-  rows : RowsSoFar (map plan_of l.initial.reports) l.how (map (exchanged l.how.separator) l.text) (map (exchanged l.how.separator) l.left) l.initial.out.bytes.items l.out.bytes.items;
+  rows : RowsSoFar (map plan_of l.initial.reports) l.how (map (exchanged l.how.separator) l.text) (map (exchanged l.how.separator) l.left) l.initial.out.items l.out.items;
 }
 
 abbrev pub decreases-loop-left : goal.decreases-loop-left

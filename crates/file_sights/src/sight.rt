@@ -1,8 +1,7 @@
 //! A look at all cells of a table before it is written.
-use crate::cells::{is_blank, lines_before, record_at};
-use crate::fault::ConvertFault;
 use column_forms::CellsSeen;
 use csv_records::RecordCell;
+use file_convert::{ConvertFault, Counts, is_blank, lines_before, record_at};
 use std::alloc::{AllocError, Global};
 
 /// The most lines that are reported.
@@ -10,35 +9,43 @@ const MOST_LINES: usize = 20;
 
 /// What is seen of a table.
 #[derive(Drop)]
-pub(crate) struct Sight<'a> {
-    pub(crate) titles: Vec<RecordCell<'a>>,
+pub(crate) struct Sight {
+    pub(crate) titles: Vec<Vec<u8>>,
     /// The columns: those of the header, and those of rows with more cells.
     pub(crate) columns: Vec<CellsSeen>,
-    pub(crate) rows: usize,
-    /// How many empty lines there are.
-    pub(crate) blank: usize,
-    /// How many rows have fewer cells than the header.
-    pub(crate) short: usize,
+    pub(crate) counts: Counts,
     /// The lines of the first rows that have fewer cells than the header, or more that are not empty; and how many these are.
     pub(crate) ragged_lines: Vec<usize>,
     pub(crate) ragged: usize,
 }
 
-impl<'a> Sight<'a> {
-    /// Returns what is seen of a header.
-    fn of_header(alloc: Global, titles: Vec<RecordCell<'a>>) -> Result<Sight<'a>, AllocError> {
-        let mut sight = Sight {
-            titles,
+impl Sight {
+    /// Returns what is seen of nothing.
+    pub(crate) fn new(alloc: Global) -> Sight {
+        Sight {
+            titles: Vec::new(alloc),
             columns: Vec::new(alloc),
-            rows: 0,
-            blank: 0,
-            short: 0,
+            counts: Counts {
+                rows: 0,
+                blank: 0,
+                short: 0,
+            },
             ragged_lines: Vec::new(alloc),
             ragged: 0,
-        };
-        let count = sight.titles.len();
-        sight.add_columns(alloc, count)?;
-        Ok(sight)
+        }
+    }
+
+    /// Sees a header.
+    pub(crate) fn see_header(
+        &mut self,
+        alloc: Global,
+        titles: &[RecordCell<'_>],
+    ) -> Result<(), AllocError> {
+        for title in titles {
+            let title = Vec::from_slice(alloc, title.as_slice())?;
+            self.titles.push(title).or(Err(AllocError))?;
+        }
+        self.add_columns(alloc, titles.len())
     }
 
     /// Adds columns of which no cell is seen yet, until there are `count`.
@@ -68,13 +75,13 @@ impl<'a> Sight<'a> {
     ) -> Result<(), AllocError> {
         let width = self.titles.len();
         if width > 1 && is_blank(cells) {
-            self.blank = self.blank.saturating_add(1);
+            self.counts.blank = self.counts.blank.saturating_add(1);
             return Ok(());
         }
-        self.rows = self.rows.saturating_add(1);
+        self.counts.rows = self.counts.rows.saturating_add(1);
         let is_short = cells.len() < width;
         if is_short {
-            self.short = self.short.saturating_add(1);
+            self.counts.short = self.counts.short.saturating_add(1);
         }
         if is_short
             || !cells
@@ -90,14 +97,14 @@ impl<'a> Sight<'a> {
         self.see_cells(alloc, cells)
     }
 
-    /// Sees the rows of a text.
-    fn see_rows(
+    /// Sees the rows of a text. Returns the number of the line after them.
+    pub(crate) fn see_rows(
         &mut self,
         alloc: Global,
         separator: u8,
         text: &[u8],
         first_line: usize,
-    ) -> Result<(), ConvertFault> {
+    ) -> Result<usize, ConvertFault> {
         let mut left = text;
         let mut line = first_line;
         for _row in 0..text.len() {
@@ -109,25 +116,6 @@ impl<'a> Sight<'a> {
             line = line.saturating_add(lines_before(left, read.rest));
             left = read.rest;
         }
-        Ok(())
+        Ok(line)
     }
-}
-
-/// Returns what is seen of a text. Lines are counted after `skipped` ones.
-pub(crate) fn see_text(
-    alloc: Global,
-    separator: u8,
-    text: &[u8],
-    skipped: usize,
-) -> Result<Sight<'_>, ConvertFault> {
-    if text.is_empty() {
-        return Err(ConvertFault::Empty);
-    }
-    let line = skipped.saturating_add(1);
-    let header = record_at(alloc, separator, text, line)?;
-    let rest = header.rest;
-    let mut sight = Sight::of_header(alloc, header.cells)?;
-    let line = line.saturating_add(lines_before(text, rest));
-    sight.see_rows(alloc, separator, rest, line)?;
-    Ok(sight)
 }

@@ -1,9 +1,7 @@
 //! What a draft guesses the datatypes of a table from.
-use crate::cells::record_at;
-use crate::fault::ConvertFault;
-use crate::report::ColumnReport;
 use column_forms::null_place;
 use csv_records::push_row;
+use file_convert::{ColumnReport, ConvertFault, record_at};
 use std::alloc::Global;
 use std::borrow::CowSlice;
 
@@ -14,7 +12,7 @@ fn has_guess(column: &ColumnReport) -> bool {
 }
 
 /// Returns a table with empty cells in the place of texts that stand for null and that a draft does not know; `None` if there are none.
-pub(crate) fn guess_text(
+pub fn guess_text(
     alloc: Global,
     columns: &[ColumnReport],
     bytes: &[u8],

@@ -1,10 +1,7 @@
 //! What is found in the columns of a table.
-use crate::asks::ConvertOptions;
-use crate::cells::cell_at;
-use crate::made::{has_time, is_dropped};
-use crate::report::{ColumnReport, ReportKind};
 use crate::sight::Sight;
 use column_forms::{CellsSeen, Choice, Point, Wants, choice_of, point_of};
+use file_convert::{ColumnReport, ConvertOptions, ReportKind, has_time, is_dropped};
 use std::alloc::{AllocError, Global};
 use std::str::from_utf8;
 
@@ -71,18 +68,26 @@ fn kind_of(seen: &CellsSeen, wants: Wants<'_>, file: Point, separator: u8) -> Re
     }
 }
 
+/// Returns the header cell of a column; an empty one after the last.
+fn title_at(sight: &Sight, place: usize) -> &[u8] {
+    match sight.titles.get(place) {
+        Some(title) => title.as_slice(),
+        None => &[],
+    }
+}
+
 /// Returns the reports of the columns of a table, in which nothing is changed yet.
 pub(crate) fn reports_of(
     alloc: Global,
     asks: &ConvertOptions<'_>,
-    sight: &Sight<'_>,
+    sight: &Sight,
     separator: u8,
 ) -> Result<Vec<ColumnReport>, AllocError> {
     let columns = sight.columns.as_slice();
     let file = file_point(columns);
     let mut reports = Vec::new(alloc);
     for (place, seen) in columns.iter().enumerate() {
-        let title = cell_at(sight.titles.as_slice(), place);
+        let title = title_at(sight, place);
         let wants = asks.wants(from_utf8(title).unwrap_or(""));
         let kind = kind_of(seen, wants, file, separator);
         let report = report_of(alloc, title, kind, seen, wants)?;
