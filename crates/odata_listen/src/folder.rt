@@ -218,7 +218,8 @@ impl<'a> Folder<'a> {
         self.load.is_some() || self.older.is_dropping()
     }
 
-    /// Takes one step of the load that is under way, if there is one: opens a file, reads a piece or a window of it, or reads the keys of a block of rows.
+    /// Takes one step of the load that is under way, if there is one: opens a file, reads a piece or a window of it, reads the keys of a block of rows,
+    /// or makes the summaries of some blocks.
     pub fn work(&mut self, rt: &HostRuntime, hub: &mut Hub, log: &mut Log<'_>)
         ensures { MayReload hub.old hub.new }
     {

@@ -9,7 +9,6 @@ mod folder;
 mod limits;
 mod older_tables;
 mod serving;
-mod stopwatch;
 mod turns;
 mod watch;
 

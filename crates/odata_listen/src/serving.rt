@@ -7,13 +7,13 @@ use crate::endings::{Moment, end_all_slow};
 use crate::folder::Folder;
 use crate::limits::{KeptLimits, Terms};
 use crate::older_tables::OlderTables;
-use crate::stopwatch::Stopwatch;
 use crate::turns::{Circle, Circles, run_round};
 use listen_args::MOST_PLACES;
 use listen_sockets::{Peer, Poller, Server, TimeLimits};
 use mio::Poll;
 use mio::net::TcpStream;
 use odata_hub::Conn;
+use round_clock::Stopwatch;
 use service_log::Log;
 use socket_listener::ListeningSocket;
 use std::io::{self, ErrorKind};
@@ -163,7 +163,7 @@ fn drop_older(watch: &mut Stopwatch<'_>, older: &mut OlderTables) {
     }
 }
 
-/// Drops parts of older tables, and if none are left takes one step of the load of the folder that is under way, if there is one.
+/// Drops parts of older tables, and if none are left takes one step of the load of the folder that is under way, if there is one and a step is due.
 #[tactic(auto, using(crate::proofs::ServingLemmas::on_none))]
 fn load_on(
     rt: &HostRuntime,
@@ -177,7 +177,11 @@ fn load_on(
     if service.folder.older.is_dropping() {
         return;
     }
+    if !watch.is_due() {
+        return;
+    }
     service.folder.work(rt, &mut server.hub, &mut service.log);
+    watch.end_step();
 }
 
 /// What goes on from one tick to the next: whose turn it is, and whether there is more to do at once.

@@ -5,9 +5,9 @@ ghost use Rattle.odata_listen.specs.Turns.{Charges, GoesRound, HasTurn, HasTurnO
 
 use crate::endings::{end, end_over, settle};
 use crate::limits::Terms;
-use crate::stopwatch::Stopwatch;
 use listen_sockets::Server;
 use odata_rounds::SlotState;
+use round_clock::Stopwatch;
 use service_log::{CloseReason, Log};
 
 /// The most visits of one turn: a request that came whole is read, begun, answered and given to its socket, and what came is looked at once more.

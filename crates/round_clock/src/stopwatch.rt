@@ -1,4 +1,4 @@
-//! How long the service works for a place, and when it has to ask the system again.
+//! How long the service works for a connection, when it has to ask the system again, and when a load takes a step.
 use std::io;
 use std::rt::Clock;
 use std::time::{CpuClock, Duration, Instant};
@@ -9,6 +9,9 @@ const ROUND: u64 = 2;
 /// From how many microseconds on the processor's time is asked: that costs one.
 const LONG: u64 = 1_000;
 
+/// After how many rounds in which nothing was done nobody is waited for.
+const IDLE: u32 = 64;
+
 /// The microseconds of a second.
 const MICROS: u64 = 1_000_000;
 
@@ -18,7 +21,8 @@ fn micros_of(time: Duration) -> u64 {
     time.as_secs().saturating_mul(MICROS).saturating_add(micros)
 }
 
-/// When a round began, the last look at the clock, the processor time at the last look at that, and the microseconds since then in which it was not asked.
+/// When a round began, the last look at the clock, the processor time at the last look at that, and the microseconds since then in which it was not asked. Beside
+/// them in how many rounds in a row nothing was done, when the last step of a load ended, and how long it took.
 #[derive(Drop)]
 pub struct Stopwatch<'a> {
     rt: &'a HostRuntime,
@@ -27,6 +31,9 @@ pub struct Stopwatch<'a> {
     cpu: Duration,
     short: u64,
     over: bool,
+    idle: u32,
+    ended: Instant,
+    step: Duration,
 }
 
 impl<'a> Stopwatch<'a> {
@@ -40,6 +47,9 @@ impl<'a> Stopwatch<'a> {
             cpu: rt.thread_cpu_time()?,
             short: 0,
             over: false,
+            idle: 0,
+            ended: now,
+            step: Duration::from_millis(0),
         })
     }
 
@@ -80,5 +90,23 @@ impl<'a> Stopwatch<'a> {
     /// Returns whether the round took its time at the last look at the clock.
     pub fn is_over(&self) -> bool {
         self.over
+    }
+
+    /// Returns true if a load takes its next step: connections had as long as its last step took, or nothing was done for them in many rounds.
+    pub fn is_due(&mut self) -> bool {
+        if self.last > self.began {
+            self.idle = 0;
+        } else {
+            self.idle = self.idle.saturating_add(1);
+        }
+        self.idle > IDLE || self.last.duration_since(self.ended) >= self.step
+    }
+
+    /// Notes that a load took a step since the last look at the clock.
+    pub fn end_step(&mut self) {
+        let began = self.last;
+        let _micros = self.lap();
+        self.ended = self.last;
+        self.step = self.ended.duration_since(began);
     }
 }
