@@ -1,7 +1,7 @@
 //! The conversion of a folder's files into a new folder that is served.
 use crate::changes::report_changes;
 use crate::metadata::{fit_schema, metadata_of};
-use crate::passes::{PassFault, found_in, write};
+use crate::passes::write;
 use crate::places::{table_of, tables_in};
 use crate::progress::show;
 use crate::publish::Half;
@@ -12,7 +12,7 @@ use crate::warnings::report_warnings;
 use csvw_meta::{Limits, Schema};
 use draft_args::Conversion;
 use file_convert::{ColumnReport, ConvertOptions, Converted, Rule};
-use file_sights::guess_text;
+use file_sights::{PassFault, found_in, guess_text};
 use schema_inference::{Aims, DraftFault, Guess, guess_of};
 use std::io::{self, ErrorKind};
 use std::mem::replace;
@@ -92,11 +92,12 @@ fn add_converted(
     folder: &mut Folder,
     names: (&str, &str),
     converted: &Converted,
+    kept: Vec<u8>,
 ) -> io::Result<()> {
     let (file, name) = names;
     report_changes(&mut folder.report, file, table_of(name), converted);
     let columns = converted.columns.as_slice();
-    let written = folder.half.read(rt, name)?;
+    let written = folder.half.file(rt, name, kept)?;
     show(rt, file, written.bytes.len(), "drafting the metadata")?;
     let mut guess = guess_written(rt, &written, columns)?;
     if let Some(schema) = guess.schemas.first_mut() {
@@ -109,6 +110,7 @@ fn add_converted(
         tables.titles.push(String::from_str(rt.alloc(), file)?)?;
         tables.schemas.push(schema)?;
         tables.bytes = tables.bytes.saturating_add(written.bytes.len());
+        folder.half.take_in(written)?;
     }
     Ok(())
 }
@@ -120,7 +122,7 @@ fn write_file(
     half: &Half,
     path: &str,
     names: (&str, &str),
-) -> Result<Converted, PassFault> {
+) -> Result<(Converted, Vec<u8>), PassFault> {
     let (file, name) = names;
     let length = std::fs::metadata(rt, path)?.len() as usize;
     show(rt, file, length, "reading")?;
@@ -128,7 +130,7 @@ fn write_file(
     show(rt, file, length, "converting")?;
     let to = half.create(rt, name)?;
     match write(rt, path, asked, found, to) {
-        Ok(converted) => Ok(converted),
+        Ok(made) => Ok(made),
         Err(fault) => {
             half.drop_file(rt, name)?;
             Err(fault)
@@ -149,7 +151,7 @@ fn convert_file(
     let rules = rules_of(rt.alloc(), rules, table_of(name))?;
     let asked = asks_of(asks, rules.as_slice());
     match write_file(rt, &asked, &folder.half, path.as_str(), names) {
-        Ok(converted) => add_converted(rt, folder, names, &converted),
+        Ok((converted, kept)) => add_converted(rt, folder, names, &converted, kept),
         Err(PassFault::Refused(fault)) => {
             folder.refused = folder.refused.saturating_add(1);
             report_refusal(&mut folder.report, file, &fault);
@@ -173,21 +175,23 @@ fn refuse_metadata(rt: &HostRuntime, fault: &DraftFault) -> io::Result<u8> {
 fn checked_metadata(
     rt: &HostRuntime,
     asks: &Conversion<'_>,
-    half: &Half,
+    half: &mut Half,
     tables: &Tables,
 ) -> io::Result<Result<Vec<u8>, DraftFault>> {
     show(rt, asks.out, tables.bytes, "checking")?;
-    let mut files = Vec::new(rt.alloc());
-    for name in &tables.names {
-        files.push(half.read(rt, name.as_str())?)?;
-    }
+    let files = half.files(rt, tables.names.as_slice())?;
     let tables = (tables.schemas.as_slice(), tables.titles.as_slice());
     Ok(metadata_of(rt.alloc(), Limits::greatest(), tables, files))
 }
 
 /// Writes the metadata of what is converted, and gives the new folder its name, or removes it if nothing is to be written. Returns the exit status.
-fn publish(rt: &HostRuntime, asks: &Conversion<'_>, half: Half, tables: &Tables) -> io::Result<u8> {
-    let made = checked_metadata(rt, asks, &half, tables);
+fn publish(
+    rt: &HostRuntime,
+    asks: &Conversion<'_>,
+    mut half: Half,
+    tables: &Tables,
+) -> io::Result<u8> {
+    let made = checked_metadata(rt, asks, &mut half, tables);
     match &made {
         Ok(Ok(text)) if !asks.dry_run => {
             half.publish(rt, asks.out, text.as_slice())?;
@@ -225,7 +229,7 @@ fn convert_files(
     rules: &[ColumnRule<'_>],
 ) -> io::Result<u8> {
     let mut folder = Folder {
-        half: Half::new(rt, asks.out)?,
+        half: Half::new(rt, asks.out, asks.dry_run)?,
         tables: Tables {
             names: Vec::new(rt.alloc()),
             titles: Vec::new(rt.alloc()),

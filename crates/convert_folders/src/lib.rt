@@ -8,7 +8,6 @@ mod convert;
 mod forms;
 mod metadata;
 mod passes;
-mod pieces;
 mod places;
 mod progress;
 mod proposals;

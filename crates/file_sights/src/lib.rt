@@ -1,9 +1,11 @@
 //! Files as people have them, before they are converted: their encoding, the byte that separates their fields, the lines before their header, and the form of the cells
-//! of each column. A file is read twice in pieces, by [`FileLook`] and then by [`Seeing`]. No contract says what is guessed.
+//! of each column ([`found_in`]). A file is read twice in pieces: it is looked at, and then its cells are seen. No contract says what is guessed.
 #![tactic(auto)]
 
 mod guess;
 mod look;
+mod passes;
+mod pieces;
 mod records;
 mod reports;
 mod seeing;
@@ -13,5 +15,5 @@ mod titles;
 
 pub use column_forms::NULLS;
 pub use guess::guess_text;
-pub use look::{FileLook, Looked};
-pub use seeing::Seeing;
+pub use passes::{PassFault, found_in};
+pub use pieces::FilePieces;

@@ -8,25 +8,25 @@ const PIECE: u64 = 524_288;
 
 /// A plain file that is read in pieces.
 #[derive(Drop)]
-pub(crate) struct Pieces {
+pub struct FilePieces {
     file: File,
-    pub(crate) piece: Vec<u8>,
+    pub piece: Vec<u8>,
 }
 
-impl Pieces {
+impl FilePieces {
     /// Opens the plain file at a path. What is none is an invalid input: the end of a FIFO never comes.
-    pub(crate) fn open(rt: &HostRuntime, path: &str) -> io::Result<Pieces> {
+    pub fn open(rt: &HostRuntime, path: &str) -> io::Result<FilePieces> {
         if !look(rt, path, true)?.is_file() {
             return Err(io::Error::from(ErrorKind::InvalidInput));
         }
-        Ok(Pieces {
+        Ok(FilePieces {
             file: fs::open(rt, path)?,
             piece: Vec::new(rt.alloc()),
         })
     }
 
     /// Reads the next piece. Returns false at the end of the file.
-    pub(crate) fn read(&mut self) -> io::Result<bool> {
+    pub fn read(&mut self) -> io::Result<bool> {
         self.piece.clear();
         let mut front = self.file.by_ref().take(PIECE);
         front.read_to_end(&mut self.piece)?;

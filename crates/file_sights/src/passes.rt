@@ -1,0 +1,69 @@
+//! The passes over a file before it is converted: it is looked at, and its cells are seen.
+use crate::look::{FileLook, Looked};
+use crate::pieces::FilePieces;
+use crate::seeing::Seeing;
+use file_convert::{ConvertFault, ConvertOptions, Found};
+use std::io;
+
+/// Why a file is not converted.
+#[derive(Drop)]
+pub enum PassFault {
+    Refused(ConvertFault),
+    /// It cannot be read, or the new one cannot be written.
+    Device(io::Error),
+}
+
+impl From<ConvertFault> for PassFault {
+    fn from(fault: ConvertFault) -> PassFault {
+        PassFault::Refused(fault)
+    }
+}
+
+impl From<io::Error> for PassFault {
+    fn from(error: io::Error) -> PassFault {
+        PassFault::Device(error)
+    }
+}
+
+/// Returns what a file looks like.
+fn look(rt: &HostRuntime, path: &str, asked: &ConvertOptions<'_>) -> Result<Looked, PassFault> {
+    let mut pieces = FilePieces::open(rt, path)?;
+    let mut look = FileLook::new(rt.alloc());
+    for _piece in 0..u64::MAX {
+        if !pieces.read()? {
+            break;
+        }
+        look.feed(pieces.piece.as_slice())?;
+    }
+    Ok(look.end(asked)?)
+}
+
+/// Returns what is found in the columns of a file.
+fn see(
+    rt: &HostRuntime,
+    path: &str,
+    asked: &ConvertOptions<'_>,
+    looked: Looked,
+) -> Result<Found, PassFault> {
+    let mut pieces = FilePieces::open(rt, path)?;
+    pieces.read()?;
+    let first = pieces.piece.as_slice();
+    let mut seeing = Seeing::start(rt.alloc(), *asked, looked, first)?;
+    for _piece in 0..u64::MAX {
+        if !pieces.read()? {
+            break;
+        }
+        seeing.feed(pieces.piece.as_slice())?;
+    }
+    Ok(seeing.end()?)
+}
+
+/// Returns what is found in a file before it is written.
+pub fn found_in(
+    rt: &HostRuntime,
+    path: &str,
+    asked: &ConvertOptions<'_>,
+) -> Result<Found, PassFault> {
+    let looked = look(rt, path, asked)?;
+    see(rt, path, asked, looked)
+}
