@@ -4,20 +4,22 @@ use Rattle.std.specs.Fmt.{decimal as number_text}
 use Rattle.std.specs.List.{flat_map, list_any}
 use Rattle.block_summary.specs.Ranges.{RangeOf, column_of, range_of}
 use Rattle.cell_types.specs.Column.{ColumnOf}
-use Rattle.cell_types.specs.Datatype.{DatatypeOf, integer, text, boolean, date, decimal, pattern_of}
+use Rattle.cell_types.specs.Datatype.{DatatypeOf}
 use Rattle.cell_types.specs.Value.{CellValue}
+use Rattle.datatype_texts.specs.Names.{bar, name_of_datatype, format_of_datatype, FormatOf, absent, pattern, texts}
 use Rattle.table_store.specs.Table.{TableOf}
 use Rattle.diagnostics.specs.Text.{quoted_text}
 use Rattle.diagnostics.specs.Value.{shown_value}
 
+-- a format after a space, where there is one; two texts stand in double quotes
+abbrev pub format_shown : FormatOf → List ℕ
+format_shown absent = []
+format_shown (pattern form) = codes " " ++ form
+format_shown (texts of_true of_false) = codes " " ++ quoted_text (of_true ++ bar ∷ of_false)
+
 -- a datatype by its name, with its format where it has one
 abbrev pub datatype_text : DatatypeOf → List ℕ
-datatype_text integer = codes "integer"
-datatype_text text = codes "string"
-datatype_text (boolean (of_true ∷ []) (of_false ∷ [])) = codes "boolean " ++ quoted_text (of_true ++ codes "|" ++ of_false)
-datatype_text (boolean of_true of_false) = codes "boolean"
-datatype_text (date form) = codes "date " ++ pattern_of form
-datatype_text decimal = codes "decimal"
+datatype_text d = name_of_datatype d ++ format_shown (format_of_datatype d)
 
 -- a bound after its name, where there is one
 abbrev pub bound_text : List ℕ → Option CellValue → List ℕ

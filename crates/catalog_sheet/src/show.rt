@@ -1,26 +1,28 @@
 //! What the service understands of a folder, table by table and column by column.
-ghost use Rattle.std.specs.Prelude.{◌≡◌, ◌++◌, ◌<◌, IfOk, codes, length, option_map, if◌then◌else◌};
+ghost use Rattle.std.specs.Prelude.{◌≡◌, ◌++◌, ◌∷◌, ◌<◌, IfOk, codes, length, option_map, if◌then◌else◌};
 ghost use Rattle.block_summary.specs.Ranges.{column_of, range_of};
 ghost use Rattle.cell_types.specs.Column.{column_view};
 ghost use Rattle.cell_types.specs.Datatype.{datatype_view};
 ghost use Rattle.cell_types.specs.Value.{value_view};
 ghost use Rattle.csvw_meta.specs.Schema.{schema_view};
+ghost use Rattle.datatype_texts.specs.Names.{bar};
 ghost use Rattle.catalog_sheet.specs.Sheet.{IsLongerBy};
 ghost use Rattle.diagnostics.specs.Text.{quoted_text};
 ghost use Rattle.catalog_sheet.specs.Show.{bound_text, column_front, column_line, datatype_text, is_of_key, shown_table, table_text, tables_text};
 
 use crate::range::column_range;
 use crate::sheet::Sheet;
-use cell_types::{BooleanForm, Column, Datatype, Value};
+use cell_types::{Column, Datatype, Value};
 use csvw_meta::Schema;
-use diagnostics::{pattern_of, push_quoted};
+use datatype_texts::{DatatypeFormat, datatype_name, format_of};
+use diagnostics::push_quoted;
 use std::alloc::{AllocError, Global};
 use table_store::{Catalog, Table};
 
 /// Appends the format of booleans of two texts.
-fn push_format(sheet: &mut Sheet, of_true: &str, of_false: &str)
+fn push_texts(sheet: &mut Sheet, of_true: &str, of_false: &str)
     ensures { IsLongerBy sheet.old sheet.new
-        (quoted_text (of_true.now ++ codes "|" ++ of_false.now)) }
+        (quoted_text (of_true.now ++ bar ∷ of_false.now)) }
 {
     match format!(in sheet.alloc; "{of_true}|{of_false}") {
         Ok(format) => {
@@ -35,19 +37,17 @@ fn push_format(sheet: &mut Sheet, of_true: &str, of_false: &str)
 fn push_datatype(sheet: &mut Sheet, datatype: &Datatype)
     ensures { IsLongerBy sheet.old sheet.new (datatype_text (datatype_view datatype.now)) }
 {
-    match datatype {
-        Datatype::Integer => sheet.push("integer"),
-        Datatype::Text => sheet.push("string"),
-        Datatype::Boolean(BooleanForm::Standard) => sheet.push("boolean"),
-        Datatype::Boolean(BooleanForm::Texts(of_true, of_false)) => {
-            sheet.push("boolean ");
-            push_format(sheet, of_true.as_str(), of_false.as_str());
+    sheet.push(datatype_name(datatype));
+    match format_of(datatype) {
+        DatatypeFormat::Absent => {}
+        DatatypeFormat::Pattern(pattern) => {
+            sheet.push(" ");
+            sheet.push(pattern);
         }
-        Datatype::Date(form) => {
-            sheet.push("date ");
-            sheet.push(pattern_of(*form));
+        DatatypeFormat::Texts(of_true, of_false) => {
+            sheet.push(" ");
+            push_texts(sheet, of_true, of_false);
         }
-        Datatype::Decimal => sheet.push("decimal"),
     }
 }
 

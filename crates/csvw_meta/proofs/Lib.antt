@@ -3,7 +3,6 @@ pub mod RefusalLemmas
 pub mod MemberLemmas
 pub mod DocumentLemmas
 pub mod FormLemmas
-pub mod DatatypeLemmas
 pub mod KeyLemmas
 pub mod NameLemmas
 pub mod LawLemmas

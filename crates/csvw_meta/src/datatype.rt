@@ -3,30 +3,17 @@ ghost use Rattle.std.specs.Prelude.{◌≡◌, Some, option_map, is_some, IfOk};
 ghost use Rattle.serde_json.specs.View.{view};
 ghost use Rattle.cell_types.specs.Datatype.{datatype_view};
 ghost use Rattle.csvw_meta.specs.Refusal.{condition_of, first_cause};
-ghost use Rattle.csvw_meta.specs.Datatype.{base_in as base_of, boolean_of_texts, boolean_texts as boolean_texts_of, constraint_conditions, datatype_conditions};
-ghost use Rattle.csvw_meta.specs.Datatype.{datatype_in as datatype_in_of, datatype_member_conditions, datatype_name as datatype_name_of, datatype_named as datatype_named_of};
-ghost use Rattle.csvw_meta.specs.Datatype.{datatype_of, datatype_with, date_form as date_form_of, may_have_format as may_have_format_of};
+ghost use Rattle.csvw_meta.specs.Datatype.{base_in as base_of, constraint_conditions, datatype_conditions};
+ghost use Rattle.csvw_meta.specs.Datatype.{datatype_in as datatype_in_of, datatype_member_conditions, datatype_name as datatype_name_of};
+ghost use Rattle.csvw_meta.specs.Datatype.{datatype_of, datatype_with, may_have_format as may_have_format_of};
 
 use crate::fault::MetaFault;
 use crate::members::{absent, has, member};
 use crate::refusal::{Refusal, ensure, ensure_served};
-use cell_types::{BooleanForm, Datatype, DateForm};
+use cell_types::Datatype;
+use datatype_texts::{datatype_named, has_format, has_formats, with_format};
 use serde_json::Value;
 use std::alloc::{AllocError, Global};
-
-/// Returns the datatype of that name, if it is served, as it is without a format.
-fn datatype_named(name: &str) -> Option<Datatype>
-    ensures { option_map datatype_view result ≡ datatype_named_of name.now }
-{
-    match name {
-        "integer" => Some(Datatype::Integer),
-        "string" => Some(Datatype::Text),
-        "boolean" => Some(Datatype::Boolean(BooleanForm::Standard)),
-        "date" => Some(Datatype::Date(DateForm::YearMonthDay)),
-        "decimal" => Some(Datatype::Decimal),
-        _ => None,
-    }
-}
 
 /// Returns the name of a datatype: a text, or what an object has for `base`, which is `string` if it has none.
 fn datatype_name(datatype: &Value) -> Option<&str>
@@ -63,49 +50,25 @@ fn is_served(datatype: &Value) -> bool
 fn may_have_format(datatype: &Value) -> bool
     ensures { result ≡ may_have_format_of (view datatype.now) }
 {
-    !has(datatype, "format")
-        || matches!(
-            base_in(datatype),
-            Some(Datatype::Boolean(_) | Datatype::Date(_))
-        )
-}
-
-/// Returns the text of true and that of false of a format `T|F`.
-fn boolean_texts(format: &str) -> Option<(&str, &str)>
-    ensures { option_map (λ texts. (texts.0.now, texts.1.now)) result
-        ≡ boolean_texts_of format.now }
-{
-    let (of_true, of_false) = format.split_once('|')?;
-    if of_true.is_empty() || of_false.is_empty() || of_true == of_false {
-        return None;
+    if !has(datatype, "format") {
+        return true;
     }
-    if of_false.as_bytes().contains(&b'|') {
-        return None;
+    match base_in(datatype) {
+        Some(base) => has_formats(&base),
+        None => false,
     }
-    Some((of_true, of_false))
-}
-
-/// Returns the form of dates with that pattern.
-fn date_form(format: &str) -> Option<DateForm>
-    ensures { result ≡ date_form_of format.now }
-{
-    DateForm::of_pattern(format)
 }
 
 /// Returns true if a datatype has that format.
-fn has_format(base: &Datatype, format: &Value) -> bool
+fn is_format(base: &Datatype, format: &Value) -> bool
     ensures { result ≡ is_some (datatype_with (datatype_view base.now) (Some (view format.now))) }
 {
-    match base {
-        Datatype::Boolean(_) => match format.as_str() {
-            Some(format) => boolean_texts(format).is_some(),
-            None => false,
-        },
-        Datatype::Date(_) => match format.as_str() {
-            Some(format) => date_form(format).is_some(),
-            None => false,
-        },
-        Datatype::Integer | Datatype::Text | Datatype::Decimal => true,
+    if !has_formats(base) {
+        return true;
+    }
+    match format.as_str() {
+        Some(format) => has_format(base, format),
+        None => false,
     }
 }
 
@@ -114,7 +77,7 @@ fn is_datatype(datatype: &Value) -> bool
     ensures { result ≡ is_some (datatype_in_of (view datatype.now)) }
 {
     match (base_in(datatype), member(datatype, "format")) {
-        (Some(base), Some(format)) => has_format(&base, format),
+        (Some(base), Some(format)) => is_format(&base, format),
         (base, _) => base.is_some(),
     }
 }
@@ -160,35 +123,18 @@ pub(crate) fn check_datatype<'v>(datatype: Option<&'v Value>) -> Result<(), Refu
     }
 }
 
-/// Returns a boolean with the texts of a format.
-fn make_boolean(alloc: Global, format: &str) -> Result<Option<Datatype>, AllocError>
-    ensures { IfOk result (λ made.
-        option_map datatype_view made ≡ option_map boolean_of_texts (boolean_texts_of format.now)) }
-{
-    let Some((of_true, of_false)) = boolean_texts(format) else {
-        return Ok(None);
-    };
-    let of_true = String::from_str(alloc, of_true)?;
-    let of_false = String::from_str(alloc, of_false)?;
-    Ok(Some(Datatype::Boolean(BooleanForm::Texts(of_true, of_false))))
-}
-
 /// Returns a datatype with a format, if it has that format.
 fn make_with(alloc: Global, base: Datatype, format: &Value) -> Result<Option<Datatype>, AllocError>
     ensures { IfOk result (λ made.
         option_map datatype_view made
         ≡ datatype_with (datatype_view base) (Some (view format.now))) }
 {
-    match base {
-        Datatype::Boolean(_) => match format.as_str() {
-            Some(format) => make_boolean(alloc, format),
-            None => Ok(None),
-        },
-        Datatype::Date(_) => match format.as_str() {
-            Some(format) => Ok(date_form(format).map(Datatype::Date)),
-            None => Ok(None),
-        },
-        base => Ok(Some(base)),
+    if !has_formats(&base) {
+        return Ok(Some(base));
+    }
+    match format.as_str() {
+        Some(format) => with_format(alloc, &base, format),
+        None => Ok(None),
     }
 }
 

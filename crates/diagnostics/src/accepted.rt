@@ -1,9 +1,9 @@
 //! What would be accepted in the place of what is refused.
 use crate::line::Line;
-use crate::text::pattern_of;
-use cell_types::{BooleanForm, CellFault, Column, Datatype};
+use cell_types::{CellFault, Column};
 use csv_index::TextFault;
 use csvw_meta::MetaFault;
+use datatype_texts::{DatatypeFormat, accepted_cells, format_of};
 
 /// Returns what metadata may have there.
 pub fn accepted_metadata(fault: &MetaFault) -> &'static str {
@@ -95,23 +95,17 @@ pub fn accepted_file(fault: TextFault) -> &'static str {
 
 /// Appends what a cell of a column may be, if it has no value for that fault.
 pub fn push_accepted_cell(line: &mut Line, column: &Column, fault: CellFault) {
-    let accepted = match &column.datatype {
-        _ if matches!(fault, CellFault::Missing) => "a value, which the column requires",
-        Datatype::Integer =>
-            "digits with a sign or none, from -9223372036854775808 to 9223372036854775807",
-        Datatype::Text => "a text",
-        Datatype::Boolean(BooleanForm::Standard) => "true, false, 1 or 0",
-        Datatype::Boolean(BooleanForm::Texts(of_true, of_false)) => {
-            line.push_quoted(of_true.as_str());
+    if matches!(fault, CellFault::Missing) {
+        return line.push("a value, which the column requires");
+    }
+    line.push(accepted_cells(&column.datatype));
+    match format_of(&column.datatype) {
+        DatatypeFormat::Absent => {}
+        DatatypeFormat::Pattern(pattern) => line.push(pattern),
+        DatatypeFormat::Texts(of_true, of_false) => {
+            line.push_quoted(of_true);
             line.push(" or ");
-            return line.push_quoted(of_false.as_str());
+            line.push_quoted(of_false);
         }
-        Datatype::Date(form) => {
-            line.push("a day of the calendar as ");
-            pattern_of(*form)
-        }
-        Datatype::Decimal =>
-            "digits with a sign or none and at most one point, of six decimal places at most, from -9223372036854.775808 to 9223372036854.775807",
-    };
-    line.push(accepted);
+    }
 }

@@ -19,5 +19,5 @@ pub use line::Line;
 pub use metadata::refuse_metadata;
 pub use report::{MOST_REFUSALS, Report};
 pub use table::{refuse_file, refuse_table};
-pub use text::{cut, pattern_of};
+pub use text::cut;
 pub use value::{push_quoted, push_value};

@@ -1,10 +1,8 @@
-//! Texts of others in a line, and patterns of dates.
+//! Texts of others in a line.
 ghost use Rattle.std.specs.Prelude.{◌≡◌, IfOk, string_bytes};
-ghost use Rattle.cell_types.specs.Datatype.{pattern_of as pattern_of_form};
 ghost use Rattle.text_escapes.specs.Escapes.{escaped as escaped_text};
 ghost use Rattle.diagnostics.specs.Text.{cut_text, front_of, is_long, quoted_text, with_mark};
 
-use cell_types::DateForm;
 use serde_json::Value;
 use std::alloc::{AllocError, Global};
 use text_escapes::escaped;
@@ -46,17 +44,4 @@ pub fn quoted(alloc: Global, text: &str) -> Result<String, AllocError>
     let front = front(alloc, text)?;
     let json = Value::String(front).to_string(alloc);
     marked(alloc, json?.as_str(), text)
-}
-
-/// Returns the pattern of a form of dates.
-pub fn pattern_of(form: DateForm) -> &'static str
-    ensures { result.now ≡ pattern_of_form form }
-{
-    match form {
-        DateForm::YearMonthDay => "yyyy-MM-dd",
-        DateForm::Compact => "yyyyMMdd",
-        DateForm::DayMonthYear => "dd/MM/yyyy",
-        DateForm::MonthDayYear => "MM/dd/yyyy",
-        DateForm::Dotted => "dd.MM.yyyy",
-    }
 }

@@ -23,8 +23,6 @@ pub fn push_value(alloc: Global, out: &mut Vec<u8>, value: &Value<'_>) -> Result
     match value {
         Value::Null => out.extend_from_slice(b"null"),
         Value::Text(text) => push_quoted(alloc, out, text.as_str()),
-        Value::Int(_) | Value::Bool(_) | Value::Date(_) | Value::Decimal(_) => {
-            reply_values::push_value::<false>(out, value)
-        }
+        value => reply_values::push_value::<false>(out, value),
     }
 }

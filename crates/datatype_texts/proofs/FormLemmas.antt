@@ -5,9 +5,9 @@ use Rattle.std.specs.Str.{bytes_eq}
 use Rattle.cell_types.specs.declared.datatype.DateForm.{DateForm}
 use Rattle.cell_types.specs.declared.datatype.DateForm.TheVariants.{YearMonthDay, Compact, DayMonthYear, MonthDayYear, Dotted}
 use Rattle.cell_types.specs.Datatype.{pattern_of}
-use Rattle.csvw_meta.specs.Datatype.{date_form}
+use Rattle.datatype_texts.specs.Names.{date_form}
 
-of_pattern : (form : DateForm) → Some form ≡ date_form (pattern_of form)
+pub of_pattern : (form : DateForm) → Some form ≡ date_form (pattern_of form)
 of_pattern YearMonthDay = refl
 of_pattern Compact = refl
 of_pattern DayMonthYear = refl
