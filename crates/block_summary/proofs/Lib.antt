@@ -10,3 +10,4 @@ mod TotalLemmas
 mod TypeLemmas
 mod WidenLemmas
 pub mod OneRangeLemmas
+pub mod TypedNumberLemmas

@@ -8,3 +8,4 @@ pub mod Tests
 pub mod Passing
 pub mod Sums
 pub mod Laws
+pub mod TypedNumbers

@@ -1,7 +1,7 @@
 -- The cells of a column that are kept as numbers: integers, decimals, booleans and dates.
-use Rattle.cell_types.specs.Kind.{cell_of, number_of, IsNumberOf}
+use Rattle.cell_types.specs.Kind.{cell_of, number_of, typed_cell, IsNumberOf}
 use Rattle.std.specs.Prelude.{◌≡◌, ℕ, ℤ, pos, ◌<◌, Bool, false, List, length, map, Option, None, Some, slice_index_or}
-use Rattle.cell_types.specs.Value.{CellValue}
+use Rattle.cell_types.specs.Value.{CellValue, null}
 use Rattle.cell_types.specs.declared.kind.NumberKind.{NumberKind}
 use Rattle.block_summary.specs.Cells.{cells_of}
 

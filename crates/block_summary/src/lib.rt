@@ -12,6 +12,7 @@ mod range;
 mod span;
 mod summary;
 mod test;
+mod typed_number;
 
 pub use block::{BLOCK_ROWS, rows_of_a_block};
 pub use bounds::Bounds;
@@ -21,3 +22,4 @@ pub use packed::PackedColumn;
 pub use range::Range;
 pub use summary::{Summary, admits};
 pub use test::Test;
+pub use typed_number::TypedNumber;

@@ -7,10 +7,12 @@ ghost use Rattle.block_summary.specs.Cells.{AreUnpacked, HaveBounds};
 ghost use Rattle.block_summary.specs.Ranges.{is_null, HasGreatest, HasLeast};
 ghost use Rattle.block_summary.specs.Passing.{number_passes};
 ghost use Rattle.block_summary.specs.Sums.{number_sum};
-ghost use Rattle.block_summary.specs.Types.{cells_of_kind, numbers_of, number_cells, AreNumbersOf};
+ghost use Rattle.block_summary.specs.TypedNumbers.{typed_number_or_null};
+ghost use Rattle.block_summary.specs.Types.{cells_of_kind, number_cells, numbers_of, AreNumbersOf};
 
 use crate::bounds::Bounds;
 use crate::integers::Integers;
+use crate::typed_number::TypedNumber;
 use cell_types::{ComparisonOperator, NumberKind, Value, numbers_stand_for_cells, typed_value};
 use std::alloc::{AllocError, Global};
 use std::marker::Model;
@@ -29,6 +31,7 @@ impl Model for PackedColumn {
 
     ghost Value = { List CellValue };
 
+    ghost use Rattle.block_summary.specs.TypedNumbers.{typed_number_or_null};
     ghost use Rattle.block_summary.specs.Types.{cells_of_kind, AllNumbersOf};
 
     ghost view = { λ c. cells_of_kind c.kind c.numbers };
@@ -67,12 +70,23 @@ impl PackedColumn {
         self.numbers.get(row)
     }
 
+    /// Returns the number of a row with its kind, or `None` if it is null, or past the end.
+    #[inline(always)]
+    pub fn typed(&self, row: usize) -> Option<TypedNumber>
+        ensures { typed_number_or_null result ≡ slice_index_or self.now row null }
+    {
+        match self.numbers.get(row) {
+            Some(number) => Some(TypedNumber::new(self.kind, number)),
+            None => None,
+        }
+    }
+
     /// Returns the value of a row; null past the end.
     pub fn value(&self, row: usize) -> Value<'static>
         ensures { value_view result ≡ slice_index_or self.now row null }
     {
-        match self.numbers.get(row) {
-            Some(number) => typed_value(self.kind, number),
+        match self.typed(row) {
+            Some(number) => number.value(),
             None => Value::Null,
         }
     }

@@ -17,11 +17,8 @@ pub(crate) fn are_near(columns: &Columns) -> bool {
 #[inline(always)]
 fn byte_of(cell: Cell<'_>) -> u8 {
     match cell {
-        Cell::Integer(number) => u8::from(number > 0),
+        Cell::Number(number) => u8::from(number.number > 0),
         Cell::Text(text) => text.as_bytes().first().copied().unwrap_or(0),
-        Cell::Boolean(truth) => u8::from(truth),
-        Cell::Date(date) => u8::from(date.year > 0),
-        Cell::Decimal(millionths) => u8::from(millionths > 0),
         Cell::Null | Cell::Value(_) => 0,
     }
 }

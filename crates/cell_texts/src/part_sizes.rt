@@ -1,6 +1,5 @@
 //! How many bytes the cells of one block's column take, in JSON or in CSV. What the column has is asked once for all of them. None is written.
 ghost use Rattle.std.specs.Prelude.{◌≡◌, ◌+◌, ◌<◌, ◌≤◌, ℕ, IsTrue, length, slice_index_or};
-ghost use Rattle.block_summary.specs.Types.{cells_of_kind, numbers_of};
 ghost use Rattle.block_summary.specs.declared.block.TheConstants.{BLOCK_ROWS};
 ghost use Rattle.cell_texts.specs.Sizes.{AreCellsCounted, AreCellsCountedFrom};
 ghost use Rattle.cell_types.specs.Value.{null};
@@ -10,7 +9,6 @@ ghost use Rattle.text_columns.specs.Texts.{AreTextLengths};
 
 use crate::sizes::{cell_size, known_size};
 use block_summary::PackedColumn;
-use cell_types::NumberKind;
 use reply_values::plain_size;
 use row_columns::{ColumnPart, PartCells, number_cell, text_cell};
 use text_columns::TextColumn;
@@ -18,20 +16,14 @@ use text_columns::TextColumn;
 /// How many texts are counted by their lengths alone.
 const TOGETHER: usize = 64;
 
-/// Adds to each size how many bytes a number takes, from that of the row `first` on. The numbers stand for values of `kind`.
-#[inline(always)]
-fn add_numbers<const JSON: bool>(
-    numbers: &PackedColumn,
-    kind: NumberKind,
-    first: usize,
-    sizes: &mut [usize],
-)
-    requires kind { cells_of_kind kind (numbers_of numbers.now) ≡ numbers.now }
-    requires within { first + length sizes.old ≤ BLOCK_ROWS }
+/// Adds to each size how many bytes a number takes, from that of the row `first` on.
+#[inline(never)]
+fn add_numbers<const JSON: bool>(numbers: &PackedColumn, first: usize, sizes: &mut [usize])
+    requires { first + length sizes.old ≤ BLOCK_ROWS }
     ensures { AreCellsCountedFrom (printed_value JSON) first numbers.now sizes.old sizes.new }
 {
     for i in 0..sizes.len() {
-        let cell = number_cell(numbers, kind, first + i);
+        let cell = number_cell(numbers, first + i);
         sizes[i] = sizes[i].saturating_add(cell_size::<JSON>(cell));
     }
 }
@@ -93,27 +85,6 @@ fn add_any<const JSON: bool>(texts: &TextColumn<'_>, first: usize, sizes: &mut [
     }
 }
 
-/// Adds to each size how many bytes a number takes, from that of the row `first` on.
-#[inline(never)]
-fn add_kinds<const JSON: bool>(numbers: &PackedColumn, first: usize, sizes: &mut [usize])
-    requires { first + length sizes.old ≤ BLOCK_ROWS }
-    ensures { AreCellsCountedFrom (printed_value JSON) first numbers.now sizes.old sizes.new }
-{
-    // A loop for each kind, so that none asks again what the numbers stand for.
-    match numbers.kind() {
-        NumberKind::Integer => {
-            add_numbers::<JSON>(numbers, NumberKind::Integer, first, sizes);
-        }
-        NumberKind::Decimal => {
-            add_numbers::<JSON>(numbers, NumberKind::Decimal, first, sizes);
-        }
-        NumberKind::Boolean => {
-            add_numbers::<JSON>(numbers, NumberKind::Boolean, first, sizes);
-        }
-        NumberKind::Date => add_numbers::<JSON>(numbers, NumberKind::Date, first, sizes),
-    }
-}
-
 /// Adds to each size how many bytes its cell takes.
 #[inline(never)]
 pub(crate) fn add_cells<const JSON: bool>(cells: &ColumnPart<'_>, sizes: &mut [usize])
@@ -121,7 +92,7 @@ pub(crate) fn add_cells<const JSON: bool>(cells: &ColumnPart<'_>, sizes: &mut [u
     ensures { AreCellsCounted (printed_value JSON) cells.now sizes.old sizes.new }
 {
     match cells.kept() {
-        PartCells::Numbers(numbers, first) => add_kinds::<JSON>(numbers, first, sizes),
+        PartCells::Numbers(numbers, first) => add_numbers::<JSON>(numbers, first, sizes),
         PartCells::Texts(texts, first) => add_any::<JSON>(&texts, first, sizes),
     }
 }

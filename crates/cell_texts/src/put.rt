@@ -4,9 +4,7 @@ ghost use Rattle.cell_types.specs.Value.{null};
 ghost use Rattle.reply_values.specs.Printed.{printed_value};
 ghost use Rattle.reply_values.specs.Size.{IsWrittenAt};
 
-use reply_values::{
-    put_bool, put_date, put_decimal, put_integer, put_piece, put_plain, put_text, put_value,
-};
+use reply_values::{put_piece, put_plain, put_text, put_value};
 use row_columns::{Cell, RowRef};
 
 /// Writes the cell of a row in a column, in JSON or in CSV. A text is not looked at if its block knows that each of its bytes stands for itself.
@@ -26,10 +24,7 @@ pub fn put_cell<const JSON: bool>(
     match values.cell(col) {
         Cell::Null if JSON => put_piece(out, at, b"null"),
         Cell::Null => at,
-        Cell::Integer(number) => put_integer(out, at, i128::from(number)),
-        Cell::Decimal(millionths) => put_decimal(out, at, i128::from(millionths)),
-        Cell::Boolean(truth) => put_bool(out, at, truth),
-        Cell::Date(date) => put_date::<JSON>(out, at, date),
+        Cell::Number(number) => put_value::<JSON>(out, at, &number.value()),
         Cell::Text(text) if values.is_plain::<JSON>(col) => {
             put_plain::<JSON>(out, at, text.as_bytes())
         }

@@ -5,10 +5,7 @@ ghost use Rattle.reply_values.specs.Size.{told};
 ghost use Rattle.row_columns.specs.Cell.{cell_view};
 ghost use Rattle.text_columns.specs.PlainParts.{IsPlainCell};
 
-use reply_values::{
-    bool_size, date_size, decimal_size, integer_size, number_room, plain_size, text_room,
-    text_size, value_size,
-};
+use reply_values::{number_room, plain_size, text_room, text_size, value_size};
 use row_columns::Cell;
 
 /// Returns how many bytes a cell takes, in JSON or in CSV.
@@ -19,10 +16,7 @@ pub fn cell_size<const JSON: bool>(cell: Cell<'_>) -> usize
     match cell {
         Cell::Null if JSON => 4,
         Cell::Null => 0,
-        Cell::Integer(number) => integer_size(i128::from(number)),
-        Cell::Decimal(millionths) => decimal_size(i128::from(millionths)),
-        Cell::Boolean(truth) => bool_size(truth),
-        Cell::Date(date) => date_size::<JSON>(date),
+        Cell::Number(number) => value_size::<JSON>(&number.value()),
         Cell::Text(text) => text_size::<JSON>(text.as_bytes()),
         Cell::Value(value) => value_size::<JSON>(value),
     }
@@ -50,10 +44,7 @@ pub fn cell_room<const JSON: bool>(cell: Cell<'_>) -> usize
 {
     match cell {
         Cell::Null => SHORT,
-        Cell::Integer(number) => number_room(number),
-        Cell::Decimal(millionths) => number_room(millionths),
-        Cell::Boolean(truth) => bool_size(truth).max(SHORT),
-        Cell::Date(date) => date_size::<JSON>(date).max(SHORT),
+        Cell::Number(number) => number_room::<JSON>(number.kind, number.number),
         Cell::Text(text) => text_room::<JSON>(text.as_bytes()),
         Cell::Value(value) => value_size::<JSON>(value),
     }

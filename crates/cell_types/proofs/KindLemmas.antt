@@ -1,11 +1,13 @@
 -- Numbers, and the cells that they stand for.
-use Rattle.std.proofs.Common.{◌≡◌, ℕ, ◌+◌, ◌*◌, ◌/◌, ◌%◌, ◌<◌, ◌≤◌, inl, inr, Some, false, refl, sym, ap, ◌∙◌, subst, arith}
+use Rattle.std.proofs.Common.{◌≡◌, ℕ, ◌+◌, ◌*◌, ◌/◌, ◌%◌, ◌<◌, ◌≤◌, inl, inr, Some, true, false, refl, sym, ap, ◌∙◌, subst, arith}
 use Rattle.std.specs.Prelude.{ℤ, pos}
 use Rattle.std.specs.Int.{int_div_euclid}
+use Rattle.std.specs.Ordering.{int_eq}
 use Rattle.std.proofs.lemmas.Int.{ints}
 use Rattle.jiff_core.specs.Calendar.{IsDate, IsYear, days_in_month}
-use Rattle.cell_types.specs.Value.{date, is_null}
-use Rattle.cell_types.specs.Kind.{day_number, number_of, place_in_year, typed_cell, IsNumberOf}
+use Rattle.cell_types.specs.Value.{CellValue, boolean, date, decimal, integer, is_null}
+use Rattle.cell_types.specs.Kind.{day_number, is_of_kind, number_in, number_of, place_in_year, typed_cell, HasRealDay, IsNumberOf}
+use Rattle.cell_types.specs.declared.kind.ColumnKind.TheVariants.{Number}
 use Rattle.cell_types.specs.declared.kind.NumberKind.{NumberKind}
 use Rattle.cell_types.specs.declared.kind.NumberKind.TheVariants.{Integer, Decimal, Boolean, Date}
 use Rattle.cell_types.proofs.NumberLaws.{int_div_euclid-512, int_rem_euclid-512}
@@ -64,6 +66,27 @@ typed-value Integer number = refl
 typed-value Decimal number = refl
 typed-value Boolean number = refl
 typed-value Date number = refl
+
+pub typed-kind : (kind : NumberKind) (number : ℤ) → is_of_kind (Number kind) (typed_cell kind number) ≡ true
+typed-kind Integer number = refl
+typed-kind Decimal number = refl
+typed-kind Boolean number = refl
+typed-kind Date number = refl
+
+-- ---- the value of the number that stands for a value
+
+pub cell-number : (kind : NumberKind) (value : CellValue) (number : ℤ) → HasRealDay value → number_in kind value ≡ Some number → IsNumberOf kind number × (value ≡ typed_cell kind number)
+cell-number Integer (integer z) number day e = let same : z ≡ number = cc in (tt, ap (λ x. integer x) same)
+cell-number Integer value number day e = absurd (cc)
+cell-number Decimal (decimal z) number day e = let same : z ≡ number = cc in (tt, ap (λ x. decimal x) same)
+cell-number Decimal value number day e = absurd (cc)
+cell-number Boolean (boolean false) number day e = let same : pos 0 ≡ number = cc in (inl (sym same), ap (λ x. boolean (int_eq x (pos 1))) same)
+cell-number Boolean (boolean true) number day e = let same : pos 1 ≡ number = cc in (inr (sym same), ap (λ x. boolean (int_eq x (pos 1))) same)
+cell-number Boolean value number day e = absurd (cc)
+cell-number Date (date y m d) number day e =
+    let same : number ≡ day_number y m d = cc in
+    ((y, m, d, day, same), sym (typed_cell-date number y m d (number-parts number y m d (date-place y m d day) same)))
+cell-number Date value number day e = absurd (cc)
 
 pub year-fits : (year : ℤ) (month day : ℕ) (y : ℤ) → y ≡ year → IsDate year (pos month) (pos day) → IsYear y
 year-fits year month day y e is = subst IsYear (sym e) is.0

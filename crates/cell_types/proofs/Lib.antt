@@ -16,4 +16,6 @@ pub mod CellLemmas
 pub mod ValueLemmas
 pub mod KindLemmas
 pub mod OrderLemmas
+pub mod BetweenLemmas
+pub mod GivenLemmas
 pub mod ReadingLemmas

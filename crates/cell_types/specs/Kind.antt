@@ -1,9 +1,10 @@
 -- The kinds of columns: what the cells of a column are, and the number or the text that stands for one. Each kind but that of texts is one of numbers.
-use Rattle.std.specs.Prelude.{◌≡◌, ◌⊎◌, ℕ, ℤ, pos, ◌+◌, ◌*◌, ◌/◌, ◌%◌, ◌+ℤ◌, ◌*ℤ◌, Bool, true, false, if◌then◌else◌, List, Option, None, Some, option_map, unsigned_abs}
+use Rattle.std.specs.Prelude.{◌≡◌, ◌⊎◌, ℕ, ℤ, pos, negsuc, ◌+◌, ◌*◌, ◌/◌, ◌%◌, ◌+ℤ◌, ◌*ℤ◌, Bool, true, false, if◌then◌else◌, List, Option, None, Some, option_map, unsigned_abs}
 use Rattle.std.specs.Int.{int_div_euclid, int_rem_euclid, w64}
 use Rattle.std.specs.Int.RustNames.{FitsSigned}
 use Rattle.std.specs.Ordering.{int_eq}
 use Rattle.jiff_core.specs.Calendar.{IsDate}
+use Rattle.cell_types.specs.Date.{is_date}
 use Rattle.cell_types.specs.Datatype as datatype
 use Rattle.cell_types.specs.Datatype.{DatatypeOf}
 use Rattle.cell_types.specs.Value.{CellValue, null, integer, text, boolean, date, decimal}
@@ -29,6 +30,10 @@ is_of_kind (Number Boolean) (boolean b) = true
 is_of_kind (Number Date) (date year month day) = true
 is_of_kind Text (text t) = true
 is_of_kind kind cell = false
+
+-- the value, where it is of the kind; null in the place of any other
+abbrev pub of_kind : ColumnKind → CellValue → CellValue
+of_kind kind value = if is_of_kind kind value then value else null
 
 -- ---- the number that stands for a cell
 
@@ -98,6 +103,23 @@ typed_cell Decimal number = decimal number
 typed_cell Boolean number = boolean (int_eq number (pos 1))
 typed_cell Date number = date (int_div_euclid number (pos 512)) (place_in_year number / 32) (place_in_year number % 32)
 
+-- the day with a number, where the calendar has it in the years 1 to 9999: 512 for each year, 32 for each month, and the day of the month
+abbrev pub day_cell : ℤ → Option CellValue
+day_cell (pos n) = if is_date (n / 512) (n % 512 / 32) (n % 32) then Some (date (pos (n / 512)) (n % 512 / 32) (n % 32)) else None
+day_cell (negsuc n) = None
+
+-- the boolean with a number
+abbrev pub truth_cell : ℤ → Option CellValue
+truth_cell number = if int_eq number (pos 0) then Some (boolean false) else (if int_eq number (pos 1) then Some (boolean true) else None)
+
+-- the value of the kind that a number stands for, where there is one; null for no number
+abbrev pub number_cell : NumberKind → Option ℤ → Option CellValue
+number_cell kind None = Some null
+number_cell Integer (Some n) = Some (integer n)
+number_cell Decimal (Some n) = Some (decimal n)
+number_cell Boolean (Some n) = truth_cell n
+number_cell Date (Some n) = day_cell n
+
 abbrev pub cell_of : NumberKind → Option ℤ → CellValue
 cell_of kind None = null
 cell_of kind (Some number) = typed_cell kind number
@@ -108,6 +130,11 @@ IsNumberOf Integer number = Unit {0}
 IsNumberOf Decimal number = Unit {0}
 IsNumberOf Boolean number = (number ≡ pos 0) ⊎ (number ≡ pos 1)
 IsNumberOf Date number = (year : ℤ) × (month : ℕ) × (day : ℕ) × IsDate year (pos month) (pos day) × (number ≡ day_number year month day)
+
+-- the day that a cell is, where it is one, is of the calendar
+abbrev pub HasRealDay : CellValue → Type 0
+HasRealDay (date year month day) = IsDate year (pos month) (pos day)
+HasRealDay cell = Unit {0}
 
 -- a cell that a column of the kind may have
 abbrev pub FitsKind : NumberKind → CellValue → Type 0

@@ -43,7 +43,8 @@ pub fn decimals_read_back()
     ensures { DecimalsReadBack }
 {}
 
-/// A number stands for a value, and is the number of that value. Of two numbers of one kind the lesser stands for the lesser value.
+/// A number stands for a value of its kind, and is the number of that value. Of two numbers of one kind the lesser stands for the lesser value. A value for which
+/// a number stands is the value of that number.
 pub fn numbers_stand_for_cells()
     ensures { NumbersStandForCells }
 {}
@@ -53,7 +54,7 @@ pub fn worked_cells()
     ensures { WorkedCells }
 {}
 
-/// Values are in one order, with null first.
+/// Values are in one order, with null first. Between two values of a kind are values of that kind alone.
 pub fn values_are_ordered()
     ensures { ValuesAreOrdered }
 {}

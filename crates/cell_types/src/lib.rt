@@ -23,7 +23,9 @@ pub use column::Column;
 pub use comparison::ComparisonOperator;
 pub use datatype::{BooleanForm, Datatype, DateForm};
 pub use fault::CellFault;
-pub use kind::{ColumnKind, NumberKind, day_number, number_in, typed_value};
+pub use kind::{
+    ColumnKind, NumberKind, day_number, number_in, number_of, of_kind, typed_value, value_of_number,
+};
 pub use laws::{
     dates_read_back, decimals_read_back, integers_read_back, memory_is_no_cause, normal_texts,
     numbers_stand_for_cells, strings_have_values, texts_are_in_order, values_are_ordered,

@@ -19,67 +19,25 @@ use Rattle.typed_trees.specs.declared.tree.TheConstants.{MILLIONTHS}
 use Rattle.odata_types.specs.declared.types.TheConstants.{MOST_SIZE}
 use Rattle.odata_types.specs.Columns.{InputOf}
 use Rattle.odata_types.specs.Result.{◌>>=◌}
-use Rattle.odata_query.specs.Key.{key_typing, key_value, kind_value, literal_in, named_value, named_value_in, named_values, scaled_value, value_in_place, value_of_type, value_under}
-use Rattle.odata_query.specs.KeyValues.{AnswersOnly, AreNamed, IsKeyOf, IsKindValue, IsNamedAt, IsUnder, IsValueAt, IsValueIn}
+use Rattle.odata_types.specs.KeyValue.{LiteralsHaveValues}
+use Rattle.odata_query.specs.Key.{key_typing, key_value, literal_in, named_value, named_value_in, named_values, value_in_place, value_of_type, value_under}
+use Rattle.odata_query.specs.KeyValues.{AnswersOnly, AreNamed, IsKeyOf, IsNamedAt, IsUnder, IsValueAt, IsValueIn}
 
 -- the same answer to another relation that gives the same
 pub other : {X : Type 0} (P Q : X → Type 0) (r : Result X TypeFault) → ((x : X) → P x → Q x) → ((x : X) → Q x → P x) → AnswersOnly P r → AnswersOnly Q r
 other P Q (Ok x) to from a = (to x a.0, (λ y q. a.1 y (from y q)))
 other P Q (Err e) to from a = (a.0, (λ y q. a.1 y (from y q)))
 
-scaled_answers : (n : ℤ) → AnswersOnly (IsKindValue (Number numbers.Decimal) (tree.number n)) (scaled_value n)
-scaled_answers n = by (nat_le (unsigned_abs n * MILLIONTHS) MOST_SIZE) refl
-  where
-    by : (c : Bool) → nat_le (unsigned_abs n * MILLIONTHS) MOST_SIZE ≡ c
-        → AnswersOnly (IsKindValue (Number numbers.Decimal) (tree.number n)) (if c then Ok (value.decimal (n *ℤ pos MILLIONTHS)) else Err BadKey)
-    by true e = ((leb-true (unsigned_abs n * MILLIONTHS) MOST_SIZE e, refl), (λ y h. h.1))
-    by false e = (refl, (λ y h. let other_way = le-leb (unsigned_abs n * MILLIONTHS) MOST_SIZE h.0 in absurd (cc)))
-
-kind_answers : (kind : ColumnKind) (literal : LiteralOf) → AnswersOnly (IsKindValue kind literal) (kind_value kind literal)
-kind_answers (Number numbers.Integer) tree.null = (refl, (λ y h. h))
-kind_answers (Number numbers.Integer) (tree.boolean b) = (refl, (λ y h. h))
-kind_answers (Number numbers.Integer) (tree.number n) = (refl, (λ y h. h))
-kind_answers (Number numbers.Integer) (tree.text t) = (refl, (λ y h. h))
-kind_answers (Number numbers.Integer) (tree.date y m d) = (refl, (λ y h. h))
-kind_answers (Number numbers.Integer) (tree.decimal n) = (refl, (λ y h. h))
-kind_answers Text tree.null = (refl, (λ y h. h))
-kind_answers Text (tree.boolean b) = (refl, (λ y h. h))
-kind_answers Text (tree.number n) = (refl, (λ y h. h))
-kind_answers Text (tree.text t) = (refl, (λ y h. h))
-kind_answers Text (tree.date y m d) = (refl, (λ y h. h))
-kind_answers Text (tree.decimal n) = (refl, (λ y h. h))
-kind_answers (Number numbers.Boolean) tree.null = (refl, (λ y h. h))
-kind_answers (Number numbers.Boolean) (tree.boolean b) = (refl, (λ y h. h))
-kind_answers (Number numbers.Boolean) (tree.number n) = (refl, (λ y h. h))
-kind_answers (Number numbers.Boolean) (tree.text t) = (refl, (λ y h. h))
-kind_answers (Number numbers.Boolean) (tree.date y m d) = (refl, (λ y h. h))
-kind_answers (Number numbers.Boolean) (tree.decimal n) = (refl, (λ y h. h))
-kind_answers (Number numbers.Date) tree.null = (refl, (λ y h. h))
-kind_answers (Number numbers.Date) (tree.boolean b) = (refl, (λ y h. h))
-kind_answers (Number numbers.Date) (tree.number n) = (refl, (λ y h. h))
-kind_answers (Number numbers.Date) (tree.text t) = (refl, (λ y h. h))
-kind_answers (Number numbers.Date) (tree.date y m d) = (refl, (λ y h. h))
-kind_answers (Number numbers.Date) (tree.decimal n) = (refl, (λ y h. h))
-kind_answers (Number numbers.Decimal) tree.null = (refl, (λ y h. h))
-kind_answers (Number numbers.Decimal) (tree.boolean b) = (refl, (λ y h. h))
-kind_answers (Number numbers.Decimal) (tree.number n) = scaled_answers n
-kind_answers (Number numbers.Decimal) (tree.text t) = (refl, (λ y h. h))
-kind_answers (Number numbers.Decimal) (tree.date y m d) = (refl, (λ y h. h))
-kind_answers (Number numbers.Decimal) (tree.decimal n) = (refl, (λ y h. h))
-
-pub value_answers : (type : ColumnType) (literal : LiteralOf) → AnswersOnly (IsValueIn type literal) (key_value type literal)
-value_answers type literal = kind_answers type.kind literal
-
 -- ---- a literal alone
 
-at : (inputs : List InputOf) (place : ℕ) (literal : LiteralOf) (o : Option InputOf) → slice_get inputs place ≡ o
+at : LiteralsHaveValues → (inputs : List InputOf) (place : ℕ) (literal : LiteralOf) (o : Option InputOf) → slice_get inputs place ≡ o
     → AnswersOnly (IsValueAt inputs place literal) (literal_in o literal)
-at inputs place literal None e = (refl, (λ y h. let there = h.there in absurd (cc)))
-at inputs place literal (Some c) e =
+at law inputs place literal None e = (refl, (λ y h. let there = h.there in absurd (cc)))
+at law inputs place literal (Some c) e =
     other (IsValueIn c.column_type literal) (IsValueAt inputs place literal) (key_value c.column_type literal)
     (λ x h. record { column = c; there = e; fits = h })
     (λ x h. let there = h.there in let same : c ≡ h.column = cc in rw same h.fits)
-    (value_answers c.column_type literal)
+    (law c.column_type.kind literal)
 
 alone : (inputs : List InputOf) (place : ℕ) (literal : LiteralOf) (r : Result CellValue TypeFault) → AnswersOnly (IsValueAt inputs place literal) r
     → AnswersOnly (IsKeyOf inputs (place ∷ []) (single literal)) (r >>= λ x. Ok (x ∷ []))
@@ -115,9 +73,9 @@ under (key_pair n l ∷ pairs) name literal (inr h) =
       | inr e ↦ rw e (under pairs name literal h.1)
     ]
 
-named_in : (inputs : List InputOf) (pairs : List KeyPairOf) (place : ℕ) (c : InputOf) → slice_get inputs place ≡ Some c
+named_in : LiteralsHaveValues → (inputs : List InputOf) (pairs : List KeyPairOf) (place : ℕ) (c : InputOf) → slice_get inputs place ≡ Some c
     → (o : Option LiteralOf) → value_under pairs c.name ≡ o → AnswersOnly (IsNamedAt inputs pairs place) (value_of_type c.column_type o)
-named_in inputs pairs place c e None u = (refl, none)
+named_in law inputs pairs place c e None u = (refl, none)
   where
     none : (y : CellValue) → IsNamedAt inputs pairs place y → ⊥
     none y h =
@@ -125,9 +83,9 @@ named_in inputs pairs place c e None u = (refl, none)
         let same : c ≡ h.column = cc in
         let there_is : value_under pairs c.name ≡ Some h.literal = rw same (under pairs h.column.name h.literal h.under) in
         absurd (cc)
-named_in inputs pairs place c e (Some l) u =
+named_in law inputs pairs place c e (Some l) u =
     other (IsValueIn c.column_type l) (IsNamedAt inputs pairs place) (key_value c.column_type l)
-    (λ x h. record { column = c; literal = l; there = e; under = found pairs c.name l u; fits = h }) back (value_answers c.column_type l)
+    (λ x h. record { column = c; literal = l; there = e; under = found pairs c.name l u; fits = h }) back (law c.column_type.kind l)
   where
     back : (x : CellValue) → IsNamedAt inputs pairs place x → IsValueIn c.column_type l x
     back x h =
@@ -137,10 +95,10 @@ named_in inputs pairs place c e (Some l) u =
         let alike : l ≡ h.literal = cc in
         rw (alike, same) h.fits
 
-named_at : (inputs : List InputOf) (pairs : List KeyPairOf) (place : ℕ) (o : Option InputOf) → slice_get inputs place ≡ o
+named_at : LiteralsHaveValues → (inputs : List InputOf) (pairs : List KeyPairOf) (place : ℕ) (o : Option InputOf) → slice_get inputs place ≡ o
     → AnswersOnly (IsNamedAt inputs pairs place) (named_value_in o pairs)
-named_at inputs pairs place None e = (refl, (λ y h. let there = h.there in absurd (cc)))
-named_at inputs pairs place (Some c) e = named_in inputs pairs place c e (value_under pairs c.name) refl
+named_at law inputs pairs place None e = (refl, (λ y h. let there = h.there in absurd (cc)))
+named_at law inputs pairs place (Some c) e = named_in law inputs pairs place c e (value_under pairs c.name) refl
 
 one_more : (inputs : List InputOf) (pairs : List KeyPairOf) (place : ℕ) (places : List ℕ) (a : Result CellValue TypeFault) (b : Result (List CellValue) TypeFault)
     → AnswersOnly (IsNamedAt inputs pairs place) a → AnswersOnly (AreNamed inputs pairs places) b
@@ -165,28 +123,28 @@ no_more : (y : List CellValue) (inputs : List InputOf) (pairs : List KeyPairOf) 
 no_more [] inputs pairs h = refl
 no_more (v ∷ vs) inputs pairs h = absurd h
 
-all_named : (inputs : List InputOf) (pairs : List KeyPairOf) (places : List ℕ) → AnswersOnly (AreNamed inputs pairs places) (named_values inputs pairs places)
-all_named inputs pairs [] = (tt, (λ y h. no_more y inputs pairs h))
-all_named inputs pairs (place ∷ places) =
+all_named : LiteralsHaveValues → (inputs : List InputOf) (pairs : List KeyPairOf) (places : List ℕ) → AnswersOnly (AreNamed inputs pairs places) (named_values inputs pairs places)
+all_named law inputs pairs [] = (tt, (λ y h. no_more y inputs pairs h))
+all_named law inputs pairs (place ∷ places) =
     one_more inputs pairs place places (named_value inputs pairs place) (named_values inputs pairs places)
-    (named_at inputs pairs place (slice_get inputs place) refl) (all_named inputs pairs places)
+    (named_at law inputs pairs place (slice_get inputs place) refl) (all_named law inputs pairs places)
 
-as_many : (inputs : List InputOf) (pairs : List KeyPairOf) (places : List ℕ) (c : Bool) → nat_eq (length pairs) (length places) ≡ c
+as_many : LiteralsHaveValues → (inputs : List InputOf) (pairs : List KeyPairOf) (places : List ℕ) (c : Bool) → nat_eq (length pairs) (length places) ≡ c
     → AnswersOnly (λ values. (length pairs ≡ length places) × AreNamed inputs pairs places values) (if c then named_values inputs pairs places else Err BadKey)
-as_many inputs pairs places true e =
+as_many law inputs pairs places true e =
     let many = (unsigned_Decides (length pairs) (length places)).0 e in
     other (AreNamed inputs pairs places) (λ values. (length pairs ≡ length places) × AreNamed inputs pairs places values) (named_values inputs pairs places)
-    (λ x h. (many, h)) (λ x h. h.1) (all_named inputs pairs places)
-as_many inputs pairs places false e = (refl, (λ y h. let many = (unsigned_Decides (length pairs) (length places)).1 h.0 in absurd (cc)))
+    (λ x h. (many, h)) (λ x h. h.1) (all_named law inputs pairs places)
+as_many law inputs pairs places false e = (refl, (λ y h. let many = (unsigned_Decides (length pairs) (length places)).1 h.0 in absurd (cc)))
 
 -- ---- keys
 
-pub key_answers : (inputs : List InputOf) (places : List ℕ) (key : KeyOf) → AnswersOnly (IsKeyOf inputs places key) (key_typing inputs places key)
-key_answers inputs [] (single literal) = (refl, (λ y h. h))
-key_answers inputs [] (named pairs) = (refl, (λ y h. h))
-key_answers inputs (place ∷ []) (single literal) =
-    alone inputs place literal (value_in_place inputs place literal) (at inputs place literal (slice_get inputs place) refl)
-key_answers inputs (place ∷ next ∷ places) (single literal) = (refl, (λ y h. h))
-key_answers inputs (place ∷ []) (named pairs) = as_many inputs pairs (place ∷ []) (nat_eq (length pairs) (length (place ∷ []))) refl
-key_answers inputs (place ∷ next ∷ places) (named pairs) =
-    as_many inputs pairs (place ∷ next ∷ places) (nat_eq (length pairs) (length (place ∷ next ∷ places))) refl
+pub key_answers : LiteralsHaveValues → (inputs : List InputOf) (places : List ℕ) (key : KeyOf) → AnswersOnly (IsKeyOf inputs places key) (key_typing inputs places key)
+key_answers law inputs [] (single literal) = (refl, (λ y h. h))
+key_answers law inputs [] (named pairs) = (refl, (λ y h. h))
+key_answers law inputs (place ∷ []) (single literal) =
+    alone inputs place literal (value_in_place inputs place literal) (at law inputs place literal (slice_get inputs place) refl)
+key_answers law inputs (place ∷ next ∷ places) (single literal) = (refl, (λ y h. h))
+key_answers law inputs (place ∷ []) (named pairs) = as_many law inputs pairs (place ∷ []) (nat_eq (length pairs) (length (place ∷ []))) refl
+key_answers law inputs (place ∷ next ∷ places) (named pairs) =
+    as_many law inputs pairs (place ∷ next ∷ places) (nat_eq (length pairs) (length (place ∷ next ∷ places))) refl

@@ -1,35 +1,16 @@
 -- Keys in a path (OData 4.01 URL Conventions, section 4.3.1).
-use Rattle.std.specs.Prelude.{ℕ, ℤ, ◌*◌, pos, ◌*ℤ◌, unsigned_abs, nat_le, nat_eq, Bool, List, [], ◌∷◌, length, find, Option, Some, None, option_map, Result, Ok, Err, if◌then◌else◌, slice_get}
+use Rattle.std.specs.Prelude.{ℕ, nat_eq, Bool, List, [], ◌∷◌, length, find, Option, Some, None, option_map, Result, Ok, Err, if◌then◌else◌, slice_get}
 use Rattle.std.specs.Str.{bytes_eq}
-use Rattle.cell_types.specs.Value as value
 use Rattle.cell_types.specs.Value.{CellValue}
-use Rattle.odata_parse.specs.Tree as tree
 use Rattle.odata_parse.specs.Tree.{LiteralOf, KeyOf, KeyPairOf, key_pair, single, named}
 use Rattle.odata_types.specs.declared.fault.TypeFault.{TypeFault}
 use Rattle.odata_types.specs.declared.fault.TypeFault.TheVariants.{BadKey}
 use Rattle.odata_types.specs.declared.types.ColumnType.{ColumnType}
-use Rattle.cell_types.specs.declared.kind.ColumnKind.{ColumnKind}
-use Rattle.cell_types.specs.declared.kind.ColumnKind.TheVariants.{Text, Number}
-use Rattle.cell_types.specs.declared.kind.NumberKind.TheVariants as numbers
-use Rattle.typed_trees.specs.declared.tree.TheConstants.{MILLIONTHS}
-use Rattle.odata_types.specs.declared.types.TheConstants.{MOST_SIZE}
 use Rattle.odata_types.specs.Columns.{InputOf}
+use Rattle.odata_types.specs.KeyValue.{kind_value}
 use Rattle.odata_types.specs.Result.{◌>>=◌}
 
--- an integer counts as its value times 1,000,000 in a column of decimals, if it is not too large
-abbrev pub scaled_value : ℤ → Result CellValue TypeFault
-scaled_value n = if nat_le (unsigned_abs n * MILLIONTHS) MOST_SIZE then Ok (value.decimal (n *ℤ pos MILLIONTHS)) else Err BadKey
-
--- a literal in a column of the key: one of the column's kind, and not null
-abbrev pub kind_value : ColumnKind → LiteralOf → Result CellValue TypeFault
-kind_value (Number numbers.Integer) (tree.number n) = Ok (value.integer n)
-kind_value Text (tree.text t) = Ok (value.text t)
-kind_value (Number numbers.Boolean) (tree.boolean b) = Ok (value.boolean b)
-kind_value (Number numbers.Date) (tree.date y m d) = Ok (value.date y m d)
-kind_value (Number numbers.Decimal) (tree.decimal n) = Ok (value.decimal n)
-kind_value (Number numbers.Decimal) (tree.number n) = scaled_value n
-kind_value kind v = Err BadKey
-
+-- a literal in a column of the key
 abbrev pub key_value : ColumnType → LiteralOf → Result CellValue TypeFault
 key_value type v = kind_value type.kind v
 

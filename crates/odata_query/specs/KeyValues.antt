@@ -1,30 +1,14 @@
 -- The values of a key predicate (OData 4.01 URL Conventions, section 4.3.1), as a relation.
-use Rattle.std.specs.Prelude.{◌≡◌, ◌≢◌, ◌⊎◌, ◌≤◌, ◌*◌, ◌*ℤ◌, ℕ, pos, unsigned_abs, List, [], ◌∷◌, length, Some, Result, Ok, Err, slice_get}
-use Rattle.cell_types.specs.Value as value
+pub use Rattle.odata_types.specs.KeyValue.{AnswersOnly}
+use Rattle.std.specs.Prelude.{◌≡◌, ◌≢◌, ◌⊎◌, ℕ, List, [], ◌∷◌, length, Some, slice_get}
 use Rattle.cell_types.specs.Value.{CellValue}
-use Rattle.odata_parse.specs.Tree as tree
 use Rattle.odata_parse.specs.Tree.{KeyOf, KeyPairOf, LiteralOf, key_pair, named, single}
-use Rattle.odata_types.specs.declared.fault.TypeFault.{TypeFault}
-use Rattle.odata_types.specs.declared.fault.TypeFault.TheVariants.{BadKey}
 use Rattle.odata_types.specs.declared.types.ColumnType.{ColumnType}
-use Rattle.cell_types.specs.declared.kind.ColumnKind.{ColumnKind}
-use Rattle.cell_types.specs.declared.kind.ColumnKind.TheVariants.{Text, Number}
-use Rattle.cell_types.specs.declared.kind.NumberKind.TheVariants as numbers
-use Rattle.typed_trees.specs.declared.tree.TheConstants.{MILLIONTHS}
-use Rattle.odata_types.specs.declared.types.TheConstants.{MOST_SIZE}
 use Rattle.odata_types.specs.Columns.{InputOf}
+use Rattle.odata_types.specs.KeyValue.{IsKindValue}
 use Rattle.odata_query.specs.Key.{key_typing}
 
--- a literal has this value in a column of the kind: that of a literal of the kind, or the millionths of a whole number
-abbrev pub IsKindValue : ColumnKind → LiteralOf → CellValue → Type 0
-IsKindValue (Number numbers.Integer) (tree.number n) v = v ≡ value.integer n
-IsKindValue Text (tree.text t) v = v ≡ value.text t
-IsKindValue (Number numbers.Boolean) (tree.boolean b) v = v ≡ value.boolean b
-IsKindValue (Number numbers.Date) (tree.date y m d) v = v ≡ value.date y m d
-IsKindValue (Number numbers.Decimal) (tree.decimal n) v = v ≡ value.decimal n
-IsKindValue (Number numbers.Decimal) (tree.number n) v = (unsigned_abs n * MILLIONTHS ≤ MOST_SIZE) × (v ≡ value.decimal (n *ℤ pos MILLIONTHS))
-IsKindValue kind literal v = ⊥
-
+-- a literal has this value in a column of the type
 abbrev pub IsValueIn : ColumnType → LiteralOf → CellValue → Type 0
 IsValueIn type literal v = IsKindValue type.kind literal v
 
@@ -60,11 +44,6 @@ IsKeyOf inputs [] key values = ⊥
 IsKeyOf inputs (place ∷ []) (single literal) (v ∷ []) = IsValueAt inputs place literal v
 IsKeyOf inputs places (single literal) values = ⊥
 IsKeyOf inputs places (named pairs) values = (length pairs ≡ length places) × AreNamed inputs pairs places values
-
--- an answer is the one that the relation gives; it is refused just where the relation gives none
-abbrev pub AnswersOnly : {X : Type 0} → (X → Type 0) → Result X TypeFault → Type 0
-AnswersOnly Is (Ok x) = Is x × ((y : _) → Is y → y ≡ x)
-AnswersOnly Is (Err cause) = (cause ≡ BadKey) × ((y : _) → Is y → ⊥)
 
 -- a key predicate has a type just where it has values in the columns of the key, and these are they
 abbrev pub KeysAreTyped : Type 0

@@ -8,6 +8,5 @@ pub mod FirstSeen
 pub mod Aggregate
 pub mod Apply
 pub mod Query
-pub mod Plain
 pub mod Laws
 pub mod Worked

@@ -17,7 +17,6 @@ use Rattle.odata_types.specs.Columns.{of_size, InputOf}
 use Rattle.typed_trees.specs.TypedTree.{truth_column}
 use Rattle.odata_query.specs.declared.aggregate.Aggregate.{Aggregate}
 use Rattle.odata_query.specs.declared.aggregate.Aggregate.TheVariants.{Count, SumOfIntegers, SumOfDecimals, Min, Max, CountDistinct}
-use Rattle.odata_query.specs.declared.aggregate.TheConstants.{COUNT_SIZE}
 use Rattle.odata_query.specs.Aggregate.{NamedAggregateOf, TypedTransformationOf, aggregate_rows, filter_rows, group_rows}
 use Rattle.odata_query.specs.Apply.{apply_typing, count_type}
 use Rattle.odata_query.specs.Key.{key_typing}

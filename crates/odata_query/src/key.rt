@@ -5,54 +5,14 @@ ghost use Rattle.cell_types.specs.Value.{value_view};
 ghost use Rattle.odata_parse.specs.Tree.{key_view, key_pair_view, literal_view};
 ghost use Rattle.odata_types.specs.Columns.{inputs_view};
 ghost use Rattle.odata_types.specs.Result.{Gives};
-ghost use Rattle.odata_query.specs.Key.{value_in_place as column_value_of, key_typing, key_value as key_value_of, scaled_value as scaled_value_of, single_values, named_value as named_value_of, named_values as named_values_of, optional_key_typing, value_of_type, value_under as value_under_name};
+ghost use Rattle.odata_query.specs.Key.{value_in_place as column_value_of, key_typing, single_values, named_value as named_value_of, named_values as named_values_of, optional_key_typing, value_of_type, value_under as value_under_name};
 ghost use Rattle.odata_query.specs.Query.{optional_values, values_view};
 
 use crate::group::column_at;
-use cell_types::{ColumnKind, NumberKind, Value};
+use cell_types::Value;
 use odata_parse::tree::{Key, KeyPair, Literal};
-use odata_types::{ColumnType, InputColumn, TypeFault, scaled};
+use odata_types::{ColumnType, InputColumn, TypeFault, key_value};
 use std::alloc::Global;
-use std::borrow::CowStr;
-use typed_trees::MILLIONTHS;
-
-/// Returns a whole number of a key as a decimal.
-fn scaled_value(number: i128) -> Result<Value<'static>, TypeFault>
-    ensures { Gives value_view (scaled_value_of number) result }
-{
-    match scaled(number.unsigned_abs()) {
-        Ok(_) => Ok(Value::Decimal(number * MILLIONTHS as i128)),
-        Err(_) => Err(TypeFault::BadKey),
-    }
-}
-
-/// Returns the value of a literal in a key's column of a type.
-fn key_value(
-    alloc: Global,
-    column_type: ColumnType,
-    literal: &Literal,
-) -> Result<Value<'static>, TypeFault>
-    ensures { Gives value_view (key_value_of column_type (literal_view literal.now)) result }
-{
-    match (column_type.kind, literal) {
-        (ColumnKind::Number(NumberKind::Integer), Literal::Number(number)) => Ok(Value::Int(
-            *number,
-        )),
-        (ColumnKind::Text, Literal::Text(text)) => {
-            let text = String::from_str(alloc, text.as_str())?;
-            Ok(Value::Text(CowStr::Owned(text)))
-        }
-        (ColumnKind::Number(NumberKind::Boolean), Literal::Boolean(truth)) => Ok(Value::Bool(
-            *truth,
-        )),
-        (ColumnKind::Number(NumberKind::Date), Literal::Date(date)) => Ok(Value::Date(*date)),
-        (ColumnKind::Number(NumberKind::Decimal), Literal::Decimal(number)) => Ok(Value::Decimal(
-            *number,
-        )),
-        (ColumnKind::Number(NumberKind::Decimal), Literal::Number(number)) => scaled_value(*number),
-        _ => Err(TypeFault::BadKey),
-    }
-}
 
 /// Returns the value of a literal in the key's column with that number.
 fn column_value(
@@ -65,7 +25,7 @@ fn column_value(
         (column_value_of (inputs_view columns.now) place (literal_view literal.now)) result }
 {
     match column_at(columns, place) {
-        Some(column) => key_value(alloc, column.column_type, literal),
+        Some(column) => key_value(alloc, column.column_type.kind, literal),
         None => Err(TypeFault::BadKey),
     }
 }
@@ -93,7 +53,7 @@ fn found_value(
         (value_of_type column_type (option_map (λ v. literal_view v.now) found.entry)) result }
 {
     match found {
-        Some(literal) => key_value(alloc, column_type, literal),
+        Some(literal) => key_value(alloc, column_type.kind, literal),
         None => Err(TypeFault::BadKey),
     }
 }

@@ -4,6 +4,8 @@ ghost use Rattle.odata_query.specs.KeyValues.{KeysAreTyped};
 ghost use Rattle.odata_query.specs.Laws.{QuerySizes};
 ghost use Rattle.odata_query.specs.Worked.{WorkedKeys, WorkedTransformations};
 
+use odata_types::literals_have_values;
+
 /// The numbers of the profile.
 pub fn sizes()
     ensures { QuerySizes }
@@ -13,7 +15,9 @@ pub fn sizes()
 /// refused for its one cause otherwise.
 pub fn keys_are_typed()
     ensures { KeysAreTyped }
-{}
+{
+    literals_have_values();
+}
 
 /// Keys with their values, or refused, written by hand.
 pub fn worked_keys()

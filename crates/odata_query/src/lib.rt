@@ -10,13 +10,11 @@ mod item;
 mod key;
 mod law;
 mod option;
-mod plain;
 mod query;
 mod selection;
 mod typed_query;
 
 pub use aggregate::{Aggregate, COUNT_SIZE, MOST_ROWS, NamedAggregate, TypedTransformation};
 pub use law::{keys_are_typed, sizes, worked_keys, worked_transformations};
-pub use plain::{PlainColumn, plain_column};
 pub use query::{OrderBy, Query, Typed};
 pub use typed_query::check;

@@ -1,3 +1,4 @@
 mod RowLemmas
 mod QueryLemmas
 mod OptionLemmas
+mod KeyLemmas

@@ -5,5 +5,6 @@ pub mod Typing
 pub mod Result
 pub mod Schema
 pub mod Input
+pub mod KeyValue
 pub mod Laws
 pub mod Worked

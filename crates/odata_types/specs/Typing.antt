@@ -31,10 +31,10 @@ use Rattle.typed_trees.specs.declared.tree.DatePart.TheVariants as part
 use Rattle.typed_trees.specs.declared.tree.TextTest.TheVariants as test
 use Rattle.odata_types.specs.Columns.{InputOf}
 use Rattle.odata_types.specs.Result.{◌>>=◌}
-use Rattle.cell_types.specs.declared.kind.ColumnKind.{ColumnKind}
-use Rattle.cell_types.specs.declared.kind.ColumnKind.TheVariants.{Text, Number}
+use Rattle.cell_types.specs.declared.kind.ColumnKind.TheVariants.{Text}
 use Rattle.cell_types.specs.declared.kind.NumberKind.TheVariants as numbers
-use Rattle.typed_trees.specs.TypedTree.{DateExprOf, TextExprOf, NumberExprOf, TruthExprOf, TypedExprOf, null_date, date_column, date_literal, null_text, text_column, text_literal, concat, null_number, number_column, number_literal, number_of_date, negated, arithmetic, length_of, index_of, part_of, scaled, null_truth, truth_column, truth_literal, negation, conjunction, disjunction, compare_numbers, compare_texts, compare_truths, number_in, text_in, truth_in, test_text, nothing, integer, text, truth, date, decimal, number_of_day}
+use Rattle.typed_trees.specs.Plain.{kind_expr}
+use Rattle.typed_trees.specs.TypedTree.{DateExprOf, TextExprOf, NumberExprOf, TruthExprOf, TypedExprOf, null_date, date_literal, null_text, text_literal, concat, null_number, number_literal, number_of_date, negated, arithmetic, length_of, index_of, part_of, scaled, null_truth, truth_literal, negation, conjunction, disjunction, compare_numbers, compare_texts, compare_truths, number_in, text_in, truth_in, test_text, nothing, integer, text, truth, date, decimal, number_of_day}
 
 -- a typed expression, or the cause
 abbrev pub Typing : Type 0
@@ -53,13 +53,6 @@ literal_typing (tree.number n) = within (unsigned_abs n) (integer (number_litera
 literal_typing (tree.text t) = Ok (text (text_literal t))
 literal_typing (tree.decimal n) = within (unsigned_abs n) (decimal (number_literal n) (unsigned_abs n))
 literal_typing (tree.date y m d) = Ok (date (date_literal (record { year = y; month = m; day = d })))
-
-abbrev pub kind_expr : ℕ → ColumnKind → ℕ → TypedExprOf
-kind_expr place (Number numbers.Integer) size = integer (number_column numbers.Integer place) size
-kind_expr place Text size = text (text_column place)
-kind_expr place (Number numbers.Boolean) size = truth (truth_column place)
-kind_expr place (Number numbers.Date) size = date (date_column place)
-kind_expr place (Number numbers.Decimal) size = decimal (number_column numbers.Decimal place) size
 
 abbrev pub column_expr : ℕ → ColumnType → TypedExprOf
 column_expr place type = kind_expr place type.kind type.size

@@ -1,17 +1,15 @@
 //! Columns by their names.
 
 ghost use Rattle.std.specs.Prelude.{◌≡◌, Ok};
-ghost use Rattle.cell_types.specs.declared.kind.ColumnKind.TheVariants.{Number};
 ghost use Rattle.odata_types.specs.Columns.{inputs_view};
 ghost use Rattle.odata_types.specs.Result.{Gives};
 ghost use Rattle.typed_trees.specs.TypedTree.{typed_view};
-ghost use Rattle.odata_types.specs.Typing.{column_expr as column_expr_of, kind_expr, name_typing, place_of as place_in};
+ghost use Rattle.odata_types.specs.Typing.{column_expr as column_expr_of, name_typing, place_of as place_in};
 
 use crate::fault::TypeFault;
 use crate::types::{ColumnType, InputColumn};
-use cell_types::{ColumnKind, NumberKind};
 use std::alloc::Global;
-use typed_trees::{DateExpr, NumberExpr, TextExpr, TruthExpr, TypedExpr};
+use typed_trees::TypedExpr;
 
 /// Returns the number of the first column with that name, or how many there are if none has it.
 pub fn place_of(columns: &[InputColumn<'_>], name: &str) -> usize
@@ -25,37 +23,12 @@ pub fn place_of(columns: &[InputColumn<'_>], name: &str) -> usize
     columns.len()
 }
 
-/// Returns the column of values of a kind with that number.
-fn number_expr(
-    alloc: Global,
-    place: usize,
-    kind: NumberKind,
-    size: u128,
-) -> Result<TypedExpr, TypeFault>
-    ensures { Gives typed_view (Ok (kind_expr place (Number kind) size)) result }
-{
-    match kind {
-        NumberKind::Integer => Ok(TypedExpr::Integer(
-            Box::new(alloc, NumberExpr::Column(NumberKind::Integer, place))?,
-            size,
-        )),
-        NumberKind::Boolean => Ok(TypedExpr::Boolean(Box::new(alloc, TruthExpr::Column(place))?)),
-        NumberKind::Date => Ok(TypedExpr::Date(DateExpr::Column(place))),
-        NumberKind::Decimal => Ok(TypedExpr::Decimal(
-            Box::new(alloc, NumberExpr::Column(NumberKind::Decimal, place))?,
-            size,
-        )),
-    }
-}
-
 /// Returns the column with that number.
 fn column_expr(alloc: Global, place: usize, column_type: ColumnType) -> Result<TypedExpr, TypeFault>
     ensures { Gives typed_view (Ok (column_expr_of place column_type)) result }
 {
-    match column_type.kind {
-        ColumnKind::Text => Ok(TypedExpr::Text(Box::new(alloc, TextExpr::Column(place))?)),
-        ColumnKind::Number(kind) => number_expr(alloc, place, kind, column_type.size),
-    }
+    let column = TypedExpr::column(alloc, column_type.kind, place, column_type.size)?;
+    Ok(column)
 }
 
 /// Returns the column with that name.

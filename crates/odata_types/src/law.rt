@@ -1,5 +1,6 @@
 //! The laws of types: each function is a theorem, and does nothing.
 
+ghost use Rattle.odata_types.specs.KeyValue.{LiteralsHaveValues};
 ghost use Rattle.odata_types.specs.Laws.{ExpressionsAreQueried, FiltersAreQueried, Sizes, TablesAreInputs};
 ghost use Rattle.odata_types.specs.Worked.{WorkedTypings};
 
@@ -16,6 +17,11 @@ pub fn expressions_are_queried()
 /// The columns of a table are an input, and its rows are rows of that input.
 pub fn tables_are_inputs()
     ensures { TablesAreInputs }
+{}
+
+/// A literal has a value in a column of a kind just if it is one of the kind, and then that value is it; it is refused for one cause otherwise.
+pub fn literals_have_values()
+    ensures { LiteralsHaveValues }
 {}
 
 /// The numbers of the profile.

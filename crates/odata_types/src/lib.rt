@@ -7,6 +7,7 @@ mod column;
 mod expression;
 mod fault;
 mod function;
+mod key;
 mod law;
 mod list;
 mod literal;
@@ -18,8 +19,10 @@ mod types;
 pub use column::place_of;
 pub use expression::{typed_expr, typed_filter};
 pub use fault::TypeFault;
+pub use key::key_value;
 pub use law::{
-    expressions_are_queried, filters_are_queried, sizes, tables_are_inputs, worked_typings,
+    expressions_are_queried, filters_are_queried, literals_have_values, sizes, tables_are_inputs,
+    worked_typings,
 };
 pub use operand::{scaled, within};
 pub use schema::schema_columns;

@@ -20,7 +20,8 @@ use Rattle.odata_types.specs.Columns.{InputOf}
 use Rattle.odata_types.specs.Result.{◌>>=◌}
 use Rattle.typed_trees.specs.TypedTree as typed
 use Rattle.typed_trees.specs.TypedTree.{DateExprOf, TextExprOf, NumberExprOf, TypedExprOf, number_of_date}
-use Rattle.odata_types.specs.Typing.{as_date, as_decimal, as_integer, as_number, as_text, as_truth, column_at, column_expr, kind_expr, literal_typing, name_typing, place_of, within}
+use Rattle.typed_trees.specs.Plain.{kind_expr}
+use Rattle.odata_types.specs.Typing.{as_date, as_decimal, as_integer, as_number, as_text, as_truth, column_at, column_expr, literal_typing, name_typing, place_of, within}
 use Rattle.row_eval.specs.Bounds.{NumberFits, TruthFits}
 use Rattle.odata_types.specs.Input.{IsBounded, IsDay, IsInput, IsOfKind, IsOfType, IsRowOf, IsShortLiteral}
 use Rattle.row_eval.specs.Outcome.{date_outcome, number_outcome, text_outcome}

@@ -30,7 +30,8 @@ use Rattle.typed_trees.specs.declared.tree.DatePart.TheVariants as part
 use Rattle.odata_types.specs.Columns.{InputOf}
 use Rattle.odata_types.specs.Result.{◌>>=◌}
 use Rattle.typed_trees.specs.TypedTree.{TypedExprOf, NumberExprOf, TextExprOf, TruthExprOf, compare_numbers, compare_texts, compare_truths, date, decimal, arithmetic, integer, length_of, negation, nothing, number_in, number_literal, part_of, text, text_in, truth, truth_in}
-use Rattle.odata_types.specs.Typing.{Typing, arithmetic_as, as_date, as_decimal, as_integer, as_number, as_text, as_truth, binary_call_typing, binary_typing, column_at, kind_expr, common_type, comparison_as, decimals_typing, computed_size, type_fits, in_typing, integers_typing, is_small, list_as, list_in_type, list_type, literal_type, literal_typing, logic_expr, number_items, part_typing, place_of, text_call, text_item, truth_item, type_of, typing, unary_call_typing, unary_typing, within}
+use Rattle.typed_trees.specs.Plain.{kind_expr}
+use Rattle.odata_types.specs.Typing.{Typing, arithmetic_as, as_date, as_decimal, as_integer, as_number, as_text, as_truth, binary_call_typing, binary_typing, column_at, common_type, comparison_as, decimals_typing, computed_size, type_fits, in_typing, integers_typing, is_small, list_as, list_in_type, list_type, literal_type, literal_typing, logic_expr, number_items, part_typing, place_of, text_call, text_item, truth_item, type_of, typing, unary_call_typing, unary_typing, within}
 use Rattle.query_meaning.specs.Order.{plain_column}
 use Rattle.query_plan.proofs.AggregateLemmas.{place_below}
 use Rattle.query_plan.proofs.TypingLemmas.{Told, told_any, told_then, told_within}

@@ -9,7 +9,7 @@ use Rattle.std.proofs.lemmas.Bool.{false≢true}
 use Rattle.block_summary.specs.Ranges.{is_null}
 use Rattle.block_summary.specs.Tests.{test_passes as passes_comparison}
 use Rattle.cell_types.specs.declared.kind.ColumnKind.TheVariants.{Text, Number}
-use Rattle.cell_types.specs.Kind.{is_of_kind}
+use Rattle.cell_types.specs.Kind.{is_of_kind, number_cell}
 use Rattle.cell_types.specs.Column.{ColumnOf}
 use Rattle.cell_types.specs.Rows.{IsTableRow}
 use Rattle.cell_types.specs.Value.{CellValue, boolean, date, decimal, integer, null, text, value_cmp}
@@ -25,7 +25,8 @@ use Rattle.odata_types.specs.declared.types.TheConstants.{MOST_SIZE}
 use Rattle.odata_types.specs.Columns.{InputOf}
 use Rattle.typed_trees.specs.TypedTree as typed
 use Rattle.typed_trees.specs.TypedTree.{NumberExprOf, TextExprOf, TruthExprOf}
-use Rattle.odata_types.specs.Typing.{column_expr, kind_expr, type_of}
+use Rattle.typed_trees.specs.Plain.{kind_expr}
+use Rattle.odata_types.specs.Typing.{column_expr, type_of}
 use Rattle.row_eval.specs.declared.truth.Truth.{Truth}
 use Rattle.row_eval.specs.Comparison.{compared, holds}
 use Rattle.odata_types.specs.Input.{IsOfKind, IsRowOf}
@@ -33,7 +34,7 @@ use Rattle.row_eval.specs.Logic.{option_of_truth, truth_of, truth_of_option}
 use Rattle.row_eval.specs.Outcome.{both, number_outcome, or_null, text_outcome, truth_outcome}
 use Rattle.row_eval.specs.Row.{boolean_in, cell, number_in, text_in}
 use Rattle.query_meaning.specs.Filter.{is_true, passes}
-use Rattle.zone_maps.specs.Numbers.{number_cell, NumbersAreTested}
+use Rattle.zone_maps.specs.Numbers.{NumbersAreTested}
 use Rattle.query_plan.specs.Scan.{TestOf, passes_test}
 use Rattle.query_plan.specs.Tests.{compared_with, literal_number, number_value, scaled_number, test_of, text_value, truth_value}
 use Rattle.query_plan.specs.Types.{IsTruthOver, column_kind, number_type}

@@ -29,11 +29,12 @@ use Rattle.typed_trees.specs.declared.tree.DatePart.TheVariants as part
 use Rattle.odata_types.specs.Columns.{InputOf}
 use Rattle.odata_types.specs.Result.{◌>>=◌}
 use Rattle.typed_trees.specs.TypedTree as typed
-use Rattle.typed_trees.specs.TypedTree.{DateExprOf, TextExprOf, TruthExprOf, TypedExprOf, number_of_date}
+use Rattle.typed_trees.specs.TypedTree.{TextExprOf, TruthExprOf, TypedExprOf, number_of_date}
 use Rattle.typed_trees.specs.declared.tree.TheConstants.{MILLIONTHS}
 use Rattle.odata_types.specs.declared.types.TheConstants.{FUNCTION_SIZE}
-use Rattle.odata_types.specs.Typing.{arithmetic_as, as_date, as_decimal, as_integer, as_number, as_text, as_truth, binary_call_typing, binary_typing, column_at, column_expr, common_type, comparison_as, comparison_typing, computed_size, decimals_typing, filter_typing, in_typing, integers_typing, is_small, kind_expr, list_as, list_in_type, list_type, literal_type, literal_typing, logic_expr, logic_typing, number_items, part_typing, place_of, text_call, type_fits, type_of, typing, unary_call_typing, unary_typing}
-use Rattle.query_plan.specs.Types.{IsDateOver, IsNumberOver, IsTextOver, IsTruthOver, column_kind}
+use Rattle.typed_trees.specs.Plain.{kind_expr}
+use Rattle.odata_types.specs.Typing.{arithmetic_as, as_date, as_decimal, as_integer, as_number, as_text, as_truth, binary_call_typing, binary_typing, column_at, column_expr, common_type, comparison_as, comparison_typing, computed_size, decimals_typing, filter_typing, in_typing, integers_typing, is_small, list_as, list_in_type, list_type, literal_type, literal_typing, logic_expr, logic_typing, number_items, part_typing, place_of, text_call, type_fits, type_of, typing, unary_call_typing, unary_typing}
+use Rattle.query_plan.specs.Types.{IsNumberOver, IsTextOver, IsTruthOver, column_kind}
 use Rattle.query_plan.proofs.TypingLemmas.{Told, told_any, told_then, told_within}
 
 -- an expression of any type
@@ -42,7 +43,7 @@ IsOver inputs typed.nothing = Unit {0}
 IsOver inputs (typed.integer e bound) = IsNumberOver inputs e
 IsOver inputs (typed.text e) = IsTextOver inputs e
 IsOver inputs (typed.truth e) = IsTruthOver inputs e
-IsOver inputs (typed.date e) = IsDateOver inputs e
+IsOver inputs (typed.date e) = IsNumberOver inputs (number_of_date e)
 IsOver inputs (typed.decimal e bound) = IsNumberOver inputs e
 
 module _ (inputs : List InputOf) where
@@ -56,7 +57,7 @@ module _ (inputs : List InputOf) where
   text_over (typed.text e) h = h
   text_over x h = tt
 
-  date_over : (x : TypedExprOf) → IsOver inputs x → Told (IsDateOver inputs) (as_date x)
+  date_over : (x : TypedExprOf) → IsOver inputs x → Told (λ d. IsNumberOver inputs (number_of_date d)) (as_date x)
   date_over typed.nothing h = tt
   date_over (typed.date e) h = h
   date_over x h = tt
@@ -72,17 +73,12 @@ module _ (inputs : List InputOf) where
   decimal_over (typed.decimal e bound) h = h
   decimal_over x h = tt
 
-  date_number : (d : DateExprOf) → IsDateOver inputs d → IsNumberOver inputs (number_of_date d)
-  date_number typed.null_date h = tt
-  date_number (typed.date_column place) h = h
-  date_number (typed.date_literal d) h = tt
-
   integer_number : (x : TypedExprOf) → IsOver inputs x → Told (IsNumberOver inputs) (as_integer x >>= λ n. Ok n.0)
   integer_number x h = told_then (λ n. IsNumberOver inputs n.0) (IsNumberOver inputs) (as_integer x) (λ n. Ok n.0) (integer_over x h) (λ n over. over)
 
   number_over : (type : ExprType) (x : TypedExprOf) → IsOver inputs x → Told (IsNumberOver inputs) (as_number type x)
   number_over kind.Decimal x h = told_then (λ n. IsNumberOver inputs n.0) (IsNumberOver inputs) (as_decimal x) (λ n. Ok n.0) (decimal_over x h) (λ n over. over)
-  number_over kind.Date x h = told_then (IsDateOver inputs) (IsNumberOver inputs) (as_date x) (λ d. Ok (number_of_date d)) (date_over x h) date_number
+  number_over kind.Date x h = told_then (λ d. IsNumberOver inputs (number_of_date d)) (IsNumberOver inputs) (as_date x) (λ d. Ok (number_of_date d)) (date_over x h) (λ d over. over)
   number_over type x h = integer_number x h
 
   -- ---- columns and literals

@@ -1,5 +1,6 @@
 -- Conditions that compare a column with a literal (OData 4.01 URL Conventions, sections 5.1.1.1.1 to 5.1.1.1.6).
 use Rattle.std.specs.Prelude.{ℕ, ℤ, pos, ◌*◌, ◌*ℤ◌, neg_ℤ, unsigned_abs, nat_le, Option, Some, None, if◌then◌else◌, option_and_then, option_map}
+use Rattle.cell_types.specs.Kind.{number_cell}
 use Rattle.cell_types.specs.Value as value
 use Rattle.cell_types.specs.Value.{CellValue}
 use Rattle.cell_types.specs.declared.comparison.ComparisonOperator.{ComparisonOperator}
@@ -7,7 +8,6 @@ use Rattle.cell_types.specs.declared.kind.NumberKind.{NumberKind}
 use Rattle.typed_trees.specs.declared.tree.TheConstants.{MILLIONTHS}
 use Rattle.odata_types.specs.declared.types.TheConstants.{MOST_SIZE}
 use Rattle.typed_trees.specs.TypedTree.{NumberExprOf, TextExprOf, TruthExprOf, compare_numbers, compare_texts, compare_truths, negated, null_number, null_text, null_truth, number_column, number_literal, scaled, text_column, text_literal, truth_column, truth_literal}
-use Rattle.zone_maps.specs.Numbers.{number_cell}
 use Rattle.query_plan.specs.Scan.{TestOf}
 
 -- a number whose size is at most 2 to the 126, as that of each number of a query with types is

@@ -5,8 +5,9 @@ use Rattle.csvw_meta.specs.Schema.{SchemaOf}
 use Rattle.odata_types.specs.Columns.{InputOf}
 use Rattle.odata_types.specs.Schema.{inputs_of}
 use Rattle.cell_types.specs.declared.kind.NumberKind.{NumberKind}
-use Rattle.cell_types.specs.declared.kind.NumberKind.TheVariants as numbers
-use Rattle.typed_trees.specs.TypedTree.{DateExprOf, NumberExprOf, TextExprOf, TruthExprOf, compare_numbers, compare_texts, compare_truths, conjunction, date_column, number_column, text_column, truth_column}
+use Rattle.cell_types.specs.declared.kind.ColumnKind.TheVariants.{Number}
+use Rattle.typed_trees.specs.TypedTree.{NumberExprOf, TextExprOf, TruthExprOf, compare_numbers, compare_texts, compare_truths, conjunction, number_column, text_column, truth_column}
+use Rattle.typed_trees.specs.Plain.{kind_expr}
 use Rattle.odata_types.specs.Typing.{column_expr, type_of}
 use Rattle.odata_types.specs.declared.types.ExprType.{ExprType}
 use Rattle.odata_types.specs.declared.types.ExprType.TheVariants as kind
@@ -16,12 +17,9 @@ use Rattle.query_plan.specs.Plan.{PlanOf, leading}
 abbrev pub column_kind : List InputOf → ℕ → Option ExprType
 column_kind inputs place = option_map (λ c. type_of (column_expr place c.column_type)) (slice_get inputs place)
 
--- the type of the values that numbers of a kind stand for
+-- the type of a column of numbers of a kind
 abbrev pub number_type : NumberKind → ExprType
-number_type numbers.Integer = kind.Integer
-number_type numbers.Decimal = kind.Decimal
-number_type numbers.Boolean = kind.Boolean
-number_type numbers.Date = kind.Date
+number_type what = type_of (kind_expr 0 (Number what) 0)
 
 -- where an expression is a column alone, this is there, and has values of the type
 abbrev pub IsNumberOver : List InputOf → NumberExprOf → Type 0
@@ -31,10 +29,6 @@ IsNumberOver inputs e = Unit {0}
 abbrev pub IsTextOver : List InputOf → TextExprOf → Type 0
 IsTextOver inputs (text_column place) = column_kind inputs place ≡ Some kind.Text
 IsTextOver inputs e = Unit {0}
-
-abbrev pub IsDateOver : List InputOf → DateExprOf → Type 0
-IsDateOver inputs (date_column place) = column_kind inputs place ≡ Some kind.Date
-IsDateOver inputs e = Unit {0}
 
 -- the same of each side of a comparison, and of each side of an `and`
 abbrev pub IsTruthOver : List InputOf → TruthExprOf → Type 0

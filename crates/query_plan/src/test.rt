@@ -7,12 +7,11 @@ ghost use Rattle.query_plan.specs.Tests.{compared_with, literal_number, number_v
 
 use crate::scan::ColumnTest;
 use block_summary::Test;
-use cell_types::{ComparisonOperator, NumberKind, Value};
+use cell_types::{ComparisonOperator, NumberKind, Value, value_of_number};
 use odata_types::{MOST_SIZE, scaled};
 use std::alloc::{AllocError, Global};
 use std::borrow::CowStr;
 use typed_trees::{MILLIONTHS, NumberExpr, TextExpr, TruthExpr};
-use zone_maps::number_value;
 
 /// Returns a number after a `-`, if it is at most 2 to the 126 in size.
 fn opposite(number: i128) -> Option<Option<i128>>
@@ -69,7 +68,7 @@ fn literal_value(kind: NumberKind, expr: &NumberExpr) -> Option<Value<'static>>
     ensures { option_map value_view result ≡ number_value_of kind (number_view expr.now) }
 {
     match number_of(expr) {
-        Some(number) => number_value(kind, number),
+        Some(number) => value_of_number(kind, number),
         None => None,
     }
 }

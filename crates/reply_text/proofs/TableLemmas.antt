@@ -1,12 +1,12 @@
 -- The tables of a folder have rows that CSV can say.
 use Rattle.std.proofs.Common.{◌≡◌, ℕ, ◌+◌, ◌<◌, ◌≤◌, true, List, [], ◌∷◌, length, map, Option, Some, None, Result, Ok, Err, refl, subst, arith, tests}
-use Rattle.std.specs.Prelude.{option_map}
+use Rattle.std.specs.Prelude.{option_map, IsTrue}
 use Rattle.std.specs.List.{AllByRecursion, list_all}
 use Rattle.std.specs.Char.{is_ascii_alphabetic}
 use Rattle.std.proofs.lemmas.Bool.{and_parts}
 use Rattle.std.proofs.lemmas.List.{length-map}
 use Rattle.std.proofs.lemmas.List.Elements.{All-from_recursion, recursion_from_All}
-use Rattle.csv_grammar.specs.Records.{Field, content, unquoted, IsField}
+use Rattle.csv_grammar.specs.Records.{Field, content, is_plain, unquoted, IsField}
 use Rattle.csv_grammar.specs.Files.{HasWidth}
 use Rattle.cell_types.specs.declared.fault.CellFault.{CellFault}
 use Rattle.cell_types.specs.Value.{CellValue}
@@ -22,9 +22,19 @@ use Rattle.table_store.specs.File.{file_named, FileOf}
 use Rattle.table_store.specs.Catalog.{HasTable, HaveTables}
 use Rattle.result_rows.specs.Rows.{rows_of_table}
 use Rattle.reply_text.specs.Laws.{FitCsv, TablesFitCsv}
-use Rattle.reply_text.proofs.RecordLemmas.{AreAbove, plain-from_above}
 
 -- ---- names of columns
+
+-- bytes above the comma
+abbrev AreAbove : List ℕ → Type 0
+AreAbove bytes = AllByRecursion (λ b. 45 ≤ b) bytes
+
+plain_above : (b : ℕ) → 45 ≤ b → IsTrue (is_plain b)
+plain_above b above = grind (arith, tests)
+
+plain-from_above : (bytes : List ℕ) → AreAbove bytes → AllByRecursion (λ b. IsTrue (is_plain b)) bytes
+plain-from_above [] above = tt
+plain-from_above (b ∷ bytes) above = (plain_above b above.0, plain-from_above bytes above.1)
 
 letter_above : (b : ℕ) → is_ascii_alphabetic b ≡ true → 45 ≤ b
 letter_above b h = grind (arith, tests)

@@ -1,30 +1,19 @@
 -- What holds of the bodies. The values of JSON (RFC 8259) that they are: a text reads as at most one.
-use Rattle.std.specs.Prelude.{◌≡◌, ℕ, ◌-◌, ◌^◌, ◌<◌, ◌≤◌, Bool, List, [], ◌∷◌, Option, None, Some, codes, length, map, true, unsigned_abs, IfSome}
+pub use Rattle.reply_values.specs.ReadBack.{field_of_value, json_of, FitsJson}
+use Rattle.std.specs.Prelude.{◌≡◌, ℕ, ◌-◌, ◌^◌, ◌<◌, ◌≤◌, Bool, List, [], ◌∷◌, Option, None, Some, codes, length, map, true, IfSome}
 use Rattle.std.specs.List.{All, AllByRecursion, concat, zip}
-use Rattle.std.specs.Fmt.{decimal, signed_decimal}
+use Rattle.std.specs.Fmt.{decimal}
 use Rattle.json.specs.Json as json
 use Rattle.csv_grammar.specs.Records.{Field, unquoted, IsField, AreRecords}
-use Rattle.cell_types.specs.Decimal.{decimal_text}
-use Rattle.cell_types.specs.Value as cell
-use Rattle.cell_types.specs.Value.{CellValue, null, integer, text, boolean, date}
+use Rattle.cell_types.specs.Value.{CellValue}
 use Rattle.table_store.specs.Catalog.{FolderOf, CatalogOf, Means}
 use Rattle.result_rows.specs.Rows.{RowsOf, rows_of_table}
-use Rattle.reply_values.specs.Printed.{printed_value, text_field}
+use Rattle.reply_values.specs.Printed.{printed_value}
 use Rattle.reply_values.specs.Size.{told}
-use Rattle.reply_values.specs.Value.{bool_text, day_text}
 use Rattle.reply_text.specs.Body.{rows_text}
 use Rattle.reply_text.specs.Csv.{csv_text}
 use Rattle.reply_text.specs.Json.{json_row}
 use Rattle.reply_text.specs.Pieces.{body_pieces, body_text}
-
--- what a value is written as: a number has its digits, and a date is a text
-abbrev pub json_of : CellValue → json.Json
-json_of null = json.null
-json_of (integer number) = json.number (signed_decimal number)
-json_of (text bytes) = json.string bytes
-json_of (boolean truth) = json.boolean truth
-json_of (date year month day) = json.string (day_text year month day)
-json_of (cell.decimal millionths) = json.number (decimal_text millionths)
 
 abbrev pub members_of : List (List ℕ × CellValue) → json.Members
 members_of [] = json.no_members
@@ -46,22 +35,6 @@ with_count (Some n) members = json.member (codes "@odata.count") (json.number (d
 -- the body of rows: their array
 abbrev pub body_of : List (List ℕ) → List (List CellValue) → Option ℕ → json.Json
 body_of names rows count = json.object (with_count count (json.member (codes "value") (json.array (items_of names rows)) json.no_members))
-
--- numbers of no more than 64 digits, as all of 128 bits are, and days whose numbers have their places
-abbrev pub FitsJson : CellValue → Type 0
-FitsJson (integer number) = unsigned_abs number < 10 ^ 64
-FitsJson (date year month day) = (unsigned_abs year < 10_000) × (month < 100) × (day < 100)
-FitsJson (cell.decimal millionths) = unsigned_abs millionths < 10 ^ 64
-FitsJson value = Unit {0}
-
--- the field of a value: its text, which is in double quotes if it is that of a text that is empty or has a double quote, a comma, a CR or an LF; null has the empty one
-abbrev pub field_of_value : CellValue → Field
-field_of_value null = unquoted []
-field_of_value (integer number) = unquoted (signed_decimal number)
-field_of_value (text bytes) = text_field bytes
-field_of_value (boolean truth) = unquoted (bool_text truth)
-field_of_value (date year month day) = unquoted (day_text year month day)
-field_of_value (cell.decimal millionths) = unquoted (decimal_text millionths)
 
 -- rows that CSV can say: at least one name, none that needs double quotes, and a value or more in each row
 pub record FitCsv (rows : RowsOf) : Type 0 where

@@ -5,3 +5,7 @@ pub mod DigitLemmas
 pub mod RunLemmas
 pub mod RoomLemmas
 pub mod PutLemmas
+pub mod ByteLemmas
+pub mod NumberLemmas
+pub mod FieldLemmas
+pub mod JsonLemmas

@@ -3,14 +3,19 @@ use Rattle.std.specs.Prelude.{FitsSigned}
 use Rattle.std.proofs.Common.{◌≡◌, ℕ, suc, ◌+◌, ◌*◌, ◌/◌, ◌%◌, ◌^◌, ◌<◌, ◌≤◌, ℤ, pos, negsuc, Bool, true, false, cond, eqb, nat_lt, List, [], ◌∷◌, length, length-append, arith}
 use Rattle.std.specs.Int.{w64}
 use Rattle.std.specs.Fmt.{decimal, signed_decimal}
+use Rattle.std.specs.Ordering.{int_eq}
 use Rattle.std.specs.List.{flat_map}
 use Rattle.std.proofs.lemmas.Fmt.{length-decimal-le_wide}
 use Rattle.std.proofs.lemmas.Int.{ints}
 use Rattle.csv_grammar.specs.Records.{doubled, print_field, quoted, unquoted}
 use Rattle.json.specs.Print.{escape_byte, escape_letter}
-use Rattle.reply_values.specs.Printed.{json_text, needs_quotes, text_field}
+use Rattle.reply_values.specs.Printed.{json_text, needs_quotes, printed_value, text_field}
 use Rattle.reply_values.specs.Size.{told}
 use Rattle.cell_types.specs.Decimal.{decimal_text, fraction_text, millionths_text}
+use Rattle.cell_types.specs.Kind.{typed_cell}
+use Rattle.cell_types.specs.Value.{boolean, date}
+use Rattle.cell_types.specs.declared.kind.NumberKind.{NumberKind}
+use Rattle.cell_types.specs.declared.kind.NumberKind.TheVariants.{Integer, Decimal, Boolean, Date}
 use Rattle.reply_values.proofs.DigitLemmas.{short_fraction, short_number}
 
 six : (t : Bool) (xs ys : List ℕ) → length xs ≤ 6 → length ys ≤ 6 → length (cond t xs ys) ≤ 6
@@ -56,3 +61,19 @@ pub decimal_few : (z : ℤ) → FitsSigned w64 z → length (decimal_text z) ≤
 unfolding decimal_text
 decimal_few (pos n) fits = omega (arith, millionths_few n (omega (arith, ints, fits)))
 decimal_few (negsuc n) fits = omega (arith, millionths_few (suc n) (omega (arith, ints, fits)))
+
+truth_few : (json : Bool) (truth : Bool) → length (printed_value json (boolean truth)) ≤ 22
+truth_few json true = omega arith
+truth_few json false = omega arith
+
+day_few : (json : Bool) (year : ℤ) (month day : ℕ) → length (printed_value json (date year month day)) ≤ 22
+day_few true (pos y) month day = omega arith
+day_few true (negsuc y) month day = omega arith
+day_few false (pos y) month day = omega arith
+day_few false (negsuc y) month day = omega arith
+
+pub kind_few : (json : Bool) (kind : NumberKind) (z : ℤ) → FitsSigned w64 z → length (printed_value json (typed_cell kind z)) ≤ 22
+kind_few json Integer z fits = omega (arith, signed_few z fits)
+kind_few json Decimal z fits = decimal_few z fits
+kind_few json Boolean z fits = truth_few json (int_eq z (pos 1))
+kind_few json Date z fits = day_few json _ _ _

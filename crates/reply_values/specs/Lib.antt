@@ -1,3 +1,4 @@
 pub mod Value
 pub mod Printed
 pub mod Size
+pub mod ReadBack

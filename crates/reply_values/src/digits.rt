@@ -3,10 +3,12 @@ ghost use Rattle.std.specs.Prelude.{◌≡◌, ◌<◌, ◌≤◌, length};
 ghost use Rattle.std.specs.Fmt.{decimal, signed_decimal};
 ghost use Rattle.jiff_fmt.specs.Text.{date_text};
 ghost use Rattle.cell_types.specs.Decimal.{decimal_text, fraction_text, millionths_text};
-ghost use Rattle.reply_values.specs.Printed.{printed_date};
+ghost use Rattle.cell_types.specs.Kind.{typed_cell};
+ghost use Rattle.reply_values.specs.Printed.{printed_date, printed_value};
 ghost use Rattle.reply_values.specs.Value.{bool_text};
 
 use crate::decimal::{ONE, six_digits, without_last_zeros};
+use cell_types::NumberKind;
 use itoa::Buffer;
 use jiff_core::civil::Date;
 
@@ -103,13 +105,13 @@ pub fn date_size<const JSON: bool>(date: Date) -> usize
     if JSON { day + 2 } else { day }
 }
 
-/// Returns a number of bytes that no whole number of 64 bits passes, and no decimal of as many millionths.
+/// Returns a number of bytes that the text of no number of a kind passes, in JSON or in CSV.
 #[inline(always)]
-#[tactic(auto, using(crate::proofs::RoomLemmas::signed_few, crate::proofs::RoomLemmas::decimal_few))]
-pub fn number_room(number: i64) -> usize
-    ensures integer { length (signed_decimal number) ≤ result }
-    ensures decimal { length (decimal_text number) ≤ result }
+#[tactic(auto, using(crate::proofs::RoomLemmas::kind_few))]
+pub fn number_room<const JSON: bool>(kind: NumberKind, number: i64) -> usize
+    ensures { length (printed_value JSON (typed_cell kind number)) ≤ result }
 {
+    let _ = kind;
     let _ = number;
     22
 }

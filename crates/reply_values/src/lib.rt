@@ -5,6 +5,7 @@
 mod decimal;
 mod digits;
 mod lanes;
+mod laws;
 mod push;
 mod put_numbers;
 mod room;
@@ -13,9 +14,9 @@ mod text_sizes;
 mod texts;
 mod value;
 
-pub use digits::{bool_size, date_size, decimal_size, integer_size, number_room, number_size};
+pub use digits::number_room;
+pub use laws::values_read_back;
 pub use push::{push_number, push_text, push_text_member};
-pub use put_numbers::{put_bool, put_date, put_decimal, put_integer};
 pub use room::{put_byte, put_piece};
 pub use runs::is_plain;
 pub use text_sizes::{plain_size, text_room, text_size};

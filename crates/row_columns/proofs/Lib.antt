@@ -7,4 +7,3 @@ pub mod CodeLemmas
 pub mod PackedLemmas
 pub mod RowLemmas
 pub mod NumberedLaws
-pub mod CellLemmas

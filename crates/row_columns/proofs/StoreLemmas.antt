@@ -60,10 +60,6 @@ module _ (store : Store) (number col : ℕ) (less : number < end_of store) where
   value_of_piece kinds pieces is piece at =
       let here : number < end_of (Blocks kinds pieces) = rw is at less in rw (is, row_of_piece pieces.items number piece (omega (arith, here)) at) refl
 
-  pub value_inside : (rows : ValueRowsOf) → store ≡ Values rows → col < length (stored_kinds store) → col < rows.width
-  value_inside rows is inside =
-      omega (arith, rw is at inside, length-replicate rows.width any)
-
 pub kinds_long : (store : Store) (rows : ValueRowsOf) → store ≡ Values rows → length (stored_kinds store) ≡ rows.width
 kinds_long store rows is = ap (λ (s : Store). length (stored_kinds s)) is ∙ length-replicate rows.width any
 

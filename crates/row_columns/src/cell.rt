@@ -1,18 +1,14 @@
 //! Cells, as they are kept.
 ghost use Rattle.std.specs.Prelude.{◌≡◌, IsTrue, option_map, slice_index_or};
-ghost use Rattle.block_summary.specs.Types.{cells_of_kind, numbers_of};
-ghost use Rattle.cell_types.specs.Kind.{cell_of};
-ghost use Rattle.cell_types.specs.declared.kind.NumberKind.TheVariants as kinds;
 ghost use Rattle.cell_types.specs.Value.{null, value_view};
-ghost use Rattle.row_columns.specs.Cell.{cell_view, IsDayOrNull};
+ghost use Rattle.row_columns.specs.Cell.{cell_view};
 ghost use Rattle.row_columns.specs.Text.{text_of_cell};
 ghost use Rattle.text_columns.specs.PlainParts.{IsPlainCell};
 ghost use Rattle.value_rows.specs.Packed.{lent_value_view};
 
-use block_summary::PackedColumn;
+use block_summary::{PackedColumn, TypedNumber};
 use cell_types::{NumberKind, Value};
 use column_blocks::BlockCells;
-use jiff_core::civil::Date;
 use text_columns::TextColumn;
 use value_rows::LentValue;
 
@@ -20,73 +16,20 @@ use value_rows::LentValue;
 #[derive(Clone, Copy, Drop)]
 pub enum Cell<'a> {
     Null,
-    Integer(i64),
-    /// In millionths.
-    Decimal(i64),
-    Boolean(bool),
-    Date(Date),
+    Number(TypedNumber),
     Text(&'a str),
     /// A value of any kind, of a row that is kept as values.
     Value(&'a Value<'static>),
 }
 
-/// Returns the cell of a whole number, or of null.
+/// Returns the cell of a row of numbers; null past the end.
 #[inline(always)]
-fn integer_cell(number: Option<i64>) -> Cell<'static>
-    ensures { cell_view result ≡ cell_of kinds.Integer number }
-{
-    match number {
-        Some(number) => Cell::Integer(number),
-        None => Cell::Null,
-    }
-}
-
-/// Returns the cell of a number of millionths, or of null.
-#[inline(always)]
-fn decimal_cell(number: Option<i64>) -> Cell<'static>
-    ensures { cell_view result ≡ cell_of kinds.Decimal number }
-{
-    match number {
-        Some(number) => Cell::Decimal(number),
-        None => Cell::Null,
-    }
-}
-
-/// Returns the cell of the number of a boolean, or of null.
-#[inline(always)]
-fn boolean_cell(number: Option<i64>) -> Cell<'static>
-    ensures { cell_view result ≡ cell_of kinds.Boolean number }
-{
-    match number {
-        Some(number) => Cell::Boolean(number == 1),
-        None => Cell::Null,
-    }
-}
-
-/// Returns the cell of a date, or of null.
-#[inline(always)]
-fn date_cell(value: &Value<'_>) -> Cell<'static>
-    requires { IsDayOrNull (value_view value.now) }
-    ensures { cell_view result ≡ value_view value.now }
-{
-    match value {
-        Value::Date(date) => Cell::Date(*date),
-        _ => Cell::Null,
-    }
-}
-
-/// Returns the cell of a row of numbers, which stand for values of `kind`; null past the end.
-#[inline(always)]
-#[tactic(auto, using(crate::proofs::CellLemmas::typed_at))]
-pub fn number_cell(numbers: &PackedColumn, kind: NumberKind, row: usize) -> Cell<'static>
-    requires { cells_of_kind kind (numbers_of numbers.now) ≡ numbers.now }
+pub fn number_cell(numbers: &PackedColumn, row: usize) -> Cell<'static>
     ensures { cell_view result ≡ slice_index_or numbers.now row null }
 {
-    match kind {
-        NumberKind::Integer => integer_cell(numbers.number(row)),
-        NumberKind::Decimal => decimal_cell(numbers.number(row)),
-        NumberKind::Boolean => boolean_cell(numbers.number(row)),
-        NumberKind::Date => date_cell(&numbers.value(row)),
+    match numbers.typed(row) {
+        Some(number) => Cell::Number(number),
+        None => Cell::Null,
     }
 }
 
@@ -110,7 +53,7 @@ pub(crate) fn cell_in(cells: &BlockCells, row: usize) -> Cell<'_>
     ensures { cell_view result ≡ slice_index_or cells.now.cells row null }
 {
     if let Some(numbers) = cells.packed() {
-        return number_cell(numbers, numbers.kind(), row);
+        return number_cell(numbers, row);
     }
     match cells.texts() {
         Some(texts) => text_cell(&texts, row),
@@ -136,10 +79,13 @@ pub(crate) fn cell_of(value: LentValue<'_>) -> Cell<'_>
 {
     match value {
         LentValue::Null => Cell::Null,
-        LentValue::Integer(number) => Cell::Integer(number),
-        LentValue::Decimal(millionths) => Cell::Decimal(millionths),
-        LentValue::Boolean(truth) => Cell::Boolean(truth),
-        LentValue::Date(date) => Cell::Date(date),
+        LentValue::Integer(number) => Cell::Number(TypedNumber::new(NumberKind::Integer, number)),
+        LentValue::Decimal(millionths) => Cell::Number(TypedNumber::new(
+            NumberKind::Decimal,
+            millionths,
+        )),
+        LentValue::Boolean(truth) => Cell::Number(TypedNumber::of_truth(truth)),
+        LentValue::Date(date) => Cell::Number(TypedNumber::of_day(date)),
         LentValue::Text(text) => Cell::Text(text),
         LentValue::Other(value) => Cell::Value(value),
     }

@@ -1,2 +1,3 @@
 pub mod TypedTree
 pub mod CanFault
+pub mod Plain

@@ -1,28 +1,29 @@
 -- Tests of a column against a literal, and what the range of the column tells of them.
-use Rattle.std.proofs.Common.{◌≡◌, ◌<◌, ℕ, Bool, true, false, Some, None, List, [], length, refl, sym, ap, ◌∙◌, subst}
-use Rattle.std.specs.Prelude.{ℤ, not, slice_index_or}
+use Rattle.std.proofs.Common.{◌≡◌, ◌<◌, ℕ, zero, suc, Bool, true, false, Option, Some, None, List, [], ◌∷◌, length, refl, sym, ap, ◌∙◌, subst}
+use Rattle.std.specs.Prelude.{ℤ, ◌≢◌, not, slice_index_or}
 use Rattle.std.specs.Cmp.Lexicographic.{slice_cmp}
-use Rattle.std.specs.Ordering.{int_cmp, nat_cmp, ordering_then}
+use Rattle.std.specs.Ordering.{int_cmp, is_gt, is_lt, nat_cmp, ordering_reverse}
 use Rattle.std.specs.declared.cmp.Ordering.{Ordering}
 use Rattle.std.specs.declared.cmp.Ordering.TheVariants as order
 use Rattle.std.proofs.lemmas.Bool.{true≢false, false≢true}
-use Rattle.cell_types.specs.Kind.{is_of_kind}
-use Rattle.cell_types.specs.Laws.{ValuesAreOrdered}
-use Rattle.cell_types.specs.Value.{CellValue, null, integer, text, boolean, date, decimal, value_cmp, value_view}
+use Rattle.cell_types.specs.Column.{ColumnOf}
+use Rattle.cell_types.specs.Kind.{is_of_kind, number_in, typed_cell, HasRealDay}
+use Rattle.cell_types.specs.Laws.{DatesReadBack, NumbersStandForCells, ValuesAreOrdered}
+use Rattle.cell_types.specs.Rows.{IsTableRow}
+use Rattle.cell_types.specs.Value.{CellValue, null, integer, text, boolean, value_cmp, value_view}
 use Rattle.block_summary.specs.Laws.{SkipsNoRow}
 use Rattle.block_summary.specs.Ranges.{RangeOf, is_null, no_range}
-use Rattle.block_summary.specs.Tests.{admits, equals, test_passes}
+use Rattle.block_summary.specs.Tests.{admits, are_ordered, equals, test_passes}
 use Rattle.block_summary.specs.declared.test.Test.{Test}
 use Rattle.cell_types.specs.declared.comparison.ComparisonOperator.{ComparisonOperator}
 use Rattle.cell_types.specs.declared.kind.ColumnKind.{ColumnKind}
 use Rattle.cell_types.specs.declared.kind.ColumnKind.TheVariants.{Text, Number}
-use Rattle.cell_types.specs.declared.kind.NumberKind.TheVariants.{Integer, Decimal, Boolean, Date}
+use Rattle.cell_types.specs.declared.kind.NumberKind.{NumberKind}
 use Rattle.cell_types.specs.declared.comparison.ComparisonOperator.TheVariants as operators
 use Rattle.row_eval.specs.declared.truth.Truth.{Truth}
-use Rattle.row_eval.specs.Comparison.{holds}
+use Rattle.row_eval.specs.Comparison.{compared, holds}
 use Rattle.row_eval.specs.Logic.{truth_of}
-use Rattle.cell_types.proofs.CaseLaws.{ordering_then_assoc}
-use Rattle.zone_maps.specs.Known.{cell_at_place, holds_between, opposite_of, cell_passes, Says}
+use Rattle.zone_maps.specs.Known.{cell_at_place, holds_between, opposite_of, cell_passes, Encloses, Says}
 
 -- ---- what a range does not admit
 
@@ -80,12 +81,22 @@ values-opposed op a b e f = order_opposed op a b (value_cmp a b) e f refl
 pub as-test : (test : Test) (op : ComparisonOperator) (literal cell : CellValue) → test.op ≡ op → value_view test.literal ≡ literal → cell_passes test cell ≡ false → test_passes op cell literal ≡ false
 as-test test op literal cell e f h = ap (λ o. test_passes o cell literal) (sym e) ∙ ap (test_passes test.op cell) (sym f) ∙ h
 
-pub integers-around : (cell : CellValue) → test_passes operators.GreaterOrEqual cell (text []) ≡ false → is_of_kind (Number Integer) cell ≡ true
-unfolding value_cmp
-integers-around null h = refl
-integers-around (integer z) h = refl
-integers-around (text []) h = absurd (true≢false h)
-integers-around cell h = absurd (true≢false h)
+tests_order : (p : Ordering → Bool) (v b : CellValue) → is_null v ≡ false → is_null b ≡ false → are_ordered p v b ≡ p (value_cmp v b)
+tests_order p v b e f = rw (e, f) refl
+
+-- what is neither less than a value of a kind nor greater than another is between them
+not_before : ValuesAreOrdered → (least cell : CellValue) → is_null least ≡ false → is_null cell ≡ false → test_passes operators.LessThan cell least ≡ false → value_cmp least cell ≢ order.Greater
+not_before law least cell l c before greater =
+    true≢false (sym (ap is_lt (law.total.antisymm cell least ∙ ap ordering_reverse greater)) ∙ sym (tests_order is_lt cell least c l) ∙ before)
+
+not_after : (cell greatest : CellValue) → is_null greatest ≡ false → is_null cell ≡ false → test_passes operators.GreaterThan cell greatest ≡ false → value_cmp cell greatest ≢ order.Greater
+not_after cell greatest g c after greater = true≢false (sym (ap is_gt greater) ∙ sym (tests_order is_gt cell greatest c g) ∙ after)
+
+pub numbers-around : ValuesAreOrdered → (kind : ColumnKind) (least greatest cell : CellValue) → is_of_kind kind least ≡ true → is_of_kind kind greatest ≡ true → is_null least ≡ false
+    → is_null greatest ≡ false → test_passes operators.LessThan cell least ≡ false → test_passes operators.GreaterThan cell greatest ≡ false → is_of_kind kind cell ≡ true
+numbers-around law kind least greatest null l g some too before after = refl
+numbers-around law kind least greatest cell l g some too before after =
+    law.together kind least greatest cell l g some (not_before law least cell some refl before) (not_after cell greatest too refl after)
 
 pub texts-around : (cell : CellValue) → test_passes operators.LessThan cell (text []) ≡ false → test_passes operators.GreaterOrEqual cell (boolean false) ≡ false → is_of_kind Text cell ≡ true
 unfolding value_cmp
@@ -95,29 +106,12 @@ texts-around (integer z) h g = absurd (true≢false h)
 texts-around (boolean true) h g = absurd (true≢false g)
 texts-around cell h g = absurd (true≢false g)
 
-pub booleans-around : (cell : CellValue) → test_passes operators.LessThan cell (boolean false) ≡ false → test_passes operators.GreaterThan cell (boolean true) ≡ false
-    → is_of_kind (Number Boolean) cell ≡ true
-unfolding value_cmp
-booleans-around null h g = refl
-booleans-around (boolean b) h g = refl
-booleans-around (date y m d) h g = absurd (true≢false g)
-booleans-around (decimal z) h g = absurd (true≢false g)
-booleans-around cell h g = absurd (true≢false h)
-
-pub dates-around : (year : ℤ) (month day : ℕ) (cell : CellValue) → test_passes operators.LessOrEqual cell (boolean true) ≡ false → test_passes operators.GreaterThan cell (date year month day) ≡ false
-    → is_of_kind (Number Date) cell ≡ true
-unfolding value_cmp
-dates-around year month day null h g = refl
-dates-around year month day (date y m d) h g = refl
-dates-around year month day (decimal z) h g = absurd (true≢false g)
-dates-around year month day (boolean true) h g = absurd (true≢false h)
-dates-around year month day cell h g = absurd (true≢false h)
-
-pub decimals-around : (least : ℤ) (cell : CellValue) → test_passes operators.LessThan cell (decimal least) ≡ false → is_of_kind (Number Decimal) cell ≡ true
-unfolding value_cmp
-decimals-around least null h = refl
-decimals-around least (decimal z) h = refl
-decimals-around least cell h = absurd (true≢false h)
+-- what passes neither of two tests by the values of two numbers of a kind is of that kind
+pub between-numbers : NumbersStandForCells → ValuesAreOrdered → (kind : NumberKind) (least greatest : ℤ) (before behind : Test) → before.op ≡ operators.LessThan
+    → value_view before.literal ≡ typed_cell kind least → behind.op ≡ operators.GreaterThan → value_view behind.literal ≡ typed_cell kind greatest → Encloses (Number kind) before behind
+between-numbers numbers values kind least greatest before behind e f g h cell b a =
+    numbers-around values (Number kind) (typed_cell kind least) (typed_cell kind greatest) cell (numbers.of_kind kind least) (numbers.of_kind kind greatest) (numbers.value kind least)
+    (numbers.value kind greatest) (as-test before operators.LessThan _ cell e f b) (as-test behind operators.GreaterThan _ cell g h a)
 
 -- ---- comparisons of cells of a kind are tests
 
@@ -166,49 +160,52 @@ two_values operators.LessOrEqual a b order.Less e f is = rw (e, f, is) refl
 two_values operators.LessOrEqual a b order.Equal e f is = rw (e, f, is) refl
 two_values operators.LessOrEqual a b order.Greater e f is = rw (e, f, is) refl
 
-pub tests-alike : (kind : ColumnKind) (o : ComparisonOperator) (a b : CellValue) → is_of_kind kind a ≡ true → is_of_kind kind b ≡ true → holds_between kind o a b ≡ test_passes o a b
+-- what has a number is a value, after null
+a_value : NumbersStandForCells → (kind : NumberKind) (v : CellValue) (n : ℤ) → HasRealDay v → number_in kind v ≡ Some n → is_null v ≡ false
+a_value numbers kind v n day e = ap is_null (numbers.cell kind v n day e).1 ∙ numbers.value kind n
+
+before_all : ValuesAreOrdered → (v : CellValue) → is_null v ≡ false → value_cmp null v ≡ order.Less
+before_all values v some = values.null_first v (λ e. true≢false (sym (ap is_null e) ∙ some))
+
+-- values of a kind of numbers are compared as their numbers
+numbers-alike : NumbersStandForCells → ValuesAreOrdered → (kind : NumberKind) (o : ComparisonOperator) (a b : CellValue) → is_of_kind (Number kind) a ≡ true → is_of_kind (Number kind) b ≡ true
+    → HasRealDay a → HasRealDay b → (x y : Option ℤ) → number_in kind a ≡ x → number_in kind b ≡ y → holds o (compared int_cmp x y) ≡ test_passes o a b
+numbers-alike numbers values kind o a b f g p q None None e h =
+    null_null o ∙ ap (λ v. test_passes o v null) (sym (numbers.only_null kind a f e)) ∙ ap (test_passes o a) (sym (numbers.only_null kind b g h))
+numbers-alike numbers values kind o a b f g p q None (Some m) e h =
+    let some = a_value numbers kind b m q h in
+    null_value o b (before_all values b some) ∙ ap (λ v. test_passes o v b) (sym (numbers.only_null kind a f e))
+numbers-alike numbers values kind o a b f g p q (Some n) None e h =
+    let some = a_value numbers kind a n p e in
+    value_null o a some (values.total.antisymm a null ∙ ap ordering_reverse (before_all values a some)) ∙ ap (test_passes o a) (sym (numbers.only_null kind b g h))
+numbers-alike numbers values kind o a b f g p q (Some n) (Some m) e h =
+    let left = numbers.cell kind a n p e in
+    let right = numbers.cell kind b m q h in
+    two_values o a b (int_cmp n m) (a_value numbers kind a n p e) (a_value numbers kind b m q h)
+    (ap (λ v. value_cmp v b) left.1 ∙ ap (value_cmp (typed_cell kind n)) right.1 ∙ numbers.order kind n m left.0 right.0)
+
+pub tests-alike : NumbersStandForCells → ValuesAreOrdered → (kind : ColumnKind) (o : ComparisonOperator) (a b : CellValue) → is_of_kind kind a ≡ true → is_of_kind kind b ≡ true
+    → HasRealDay a → HasRealDay b → holds_between kind o a b ≡ test_passes o a b
 unfolding value_cmp
-tests-alike (Number Integer) o null null h g = null_null o
-tests-alike (Number Integer) o null (integer y) h g = null_value o (integer y) refl
-tests-alike (Number Integer) o null _ h g = absurd (false≢true g)
-tests-alike (Number Integer) o (integer x) null h g = value_null o (integer x) refl refl
-tests-alike (Number Integer) o (integer x) (integer y) h g = two_values o (integer x) (integer y) (int_cmp x y) refl refl refl
-tests-alike (Number Integer) o (integer x) _ h g = absurd (false≢true g)
-tests-alike (Number Integer) o _ _ h g = absurd (false≢true h)
-tests-alike Text o null null h g = null_null o
-tests-alike Text o null (text y) h g = null_value o (text y) refl
-tests-alike Text o null _ h g = absurd (false≢true g)
-tests-alike Text o (text x) null h g = value_null o (text x) refl refl
-tests-alike Text o (text x) (text y) h g = two_values o (text x) (text y) (slice_cmp nat_cmp x y) refl refl refl
-tests-alike Text o (text x) _ h g = absurd (false≢true g)
-tests-alike Text o _ _ h g = absurd (false≢true h)
-tests-alike (Number Boolean) o null null h g = null_null o
-tests-alike (Number Boolean) o null (boolean y) h g = null_value o (boolean y) refl
-tests-alike (Number Boolean) o null _ h g = absurd (false≢true g)
-tests-alike (Number Boolean) o (boolean x) null h g = value_null o (boolean x) refl refl
-tests-alike (Number Boolean) o (boolean true) (boolean true) h g = two_values o (boolean true) (boolean true) order.Equal refl refl refl
-tests-alike (Number Boolean) o (boolean true) (boolean false) h g = two_values o (boolean true) (boolean false) order.Greater refl refl refl
-tests-alike (Number Boolean) o (boolean false) (boolean true) h g = two_values o (boolean false) (boolean true) order.Less refl refl refl
-tests-alike (Number Boolean) o (boolean false) (boolean false) h g = two_values o (boolean false) (boolean false) order.Equal refl refl refl
-tests-alike (Number Boolean) o (boolean x) _ h g = absurd (false≢true g)
-tests-alike (Number Boolean) o _ _ h g = absurd (false≢true h)
-tests-alike (Number Date) o null null h g = null_null o
-tests-alike (Number Date) o null (date y n e) h g = null_value o (date y n e) refl
-tests-alike (Number Date) o null _ h g = absurd (false≢true g)
-tests-alike (Number Date) o (date x m d) null h g = value_null o (date x m d) refl refl
-tests-alike (Number Date) o (date x m d) (date y n e) h g = two_values o (date x m d) (date y n e) (ordering_then (ordering_then (int_cmp x y) (nat_cmp m n)) (nat_cmp d e)) refl refl (ordering_then_assoc (int_cmp x y) (nat_cmp m n) (nat_cmp d e))
-tests-alike (Number Date) o (date x m d) _ h g = absurd (false≢true g)
-tests-alike (Number Date) o _ _ h g = absurd (false≢true h)
-tests-alike (Number Decimal) o null null h g = null_null o
-tests-alike (Number Decimal) o null (decimal y) h g = null_value o (decimal y) refl
-tests-alike (Number Decimal) o null _ h g = absurd (false≢true g)
-tests-alike (Number Decimal) o (decimal x) null h g = value_null o (decimal x) refl refl
-tests-alike (Number Decimal) o (decimal x) (decimal y) h g = two_values o (decimal x) (decimal y) (int_cmp x y) refl refl refl
-tests-alike (Number Decimal) o (decimal x) _ h g = absurd (false≢true g)
-tests-alike (Number Decimal) o _ _ h g = absurd (false≢true h)
+tests-alike numbers values (Number kind) o a b h g p q = numbers-alike numbers values kind o a b h g p q (number_in kind a) (number_in kind b) refl refl
+tests-alike numbers values Text o null null h g p q = null_null o
+tests-alike numbers values Text o null (text y) h g p q = null_value o (text y) refl
+tests-alike numbers values Text o null _ h g p q = absurd (false≢true g)
+tests-alike numbers values Text o (text x) null h g p q = value_null o (text x) refl refl
+tests-alike numbers values Text o (text x) (text y) h g p q = two_values o (text x) (text y) (slice_cmp nat_cmp x y) refl refl refl
+tests-alike numbers values Text o (text x) _ h g p q = absurd (false≢true g)
+tests-alike numbers values Text o _ _ h g p q = absurd (false≢true h)
+
+-- the cells of a row of a table have real days
+pub row-day : DatesReadBack → (columns : List ColumnOf) (row : List CellValue) (place : ℕ) → IsTableRow columns row → HasRealDay (cell_at_place row place)
+row-day dates [] [] place h = tt
+row-day dates [] (v ∷ vs) place h = absurd h
+row-day dates (c ∷ cs) [] place h = absurd h
+row-day dates (c ∷ cs) (v ∷ vs) zero h = dates.columns c v h.0
+row-day dates (c ∷ cs) (v ∷ vs) (suc place) h = row-day dates cs vs place h.2
 
 -- ---- where a test is known
 
-pub comparison-known : (kind : ColumnKind) (o : ComparisonOperator) (a b : CellValue) (holds : Bool) (truth : Truth) → is_of_kind kind a ≡ true → is_of_kind kind b ≡ true
-    → test_passes o a b ≡ holds → truth ≡ truth_of holds → truth_of (holds_between kind o a b) ≡ truth
-comparison-known kind o a b holds truth f g is t = ap truth_of (tests-alike kind o a b f g ∙ is) ∙ sym t
+pub comparison-known : NumbersStandForCells → ValuesAreOrdered → (kind : ColumnKind) (o : ComparisonOperator) (a b : CellValue) (holds : Bool) (truth : Truth) → is_of_kind kind a ≡ true
+    → is_of_kind kind b ≡ true → HasRealDay a → HasRealDay b → test_passes o a b ≡ holds → truth ≡ truth_of holds → truth_of (holds_between kind o a b) ≡ truth
+comparison-known numbers values kind o a b holds truth f g p q is t = ap truth_of (tests-alike numbers values kind o a b f g p q ∙ is) ∙ sym t

@@ -3,7 +3,7 @@ use Rattle.std.specs.Prelude.{◌≡◌, ◌<◌, ℕ, ℤ, Bool, true, false, L
 use Rattle.std.specs.Cmp.Lexicographic.{slice_cmp}
 use Rattle.std.specs.Ordering.{int_cmp, nat_cmp}
 use Rattle.cell_types.specs.Column.{ColumnOf}
-use Rattle.cell_types.specs.Kind.{is_of_kind}
+use Rattle.cell_types.specs.Kind.{is_of_kind, HasRealDay}
 use Rattle.cell_types.specs.Rows.{IsTableRow}
 use Rattle.cell_types.specs.Value.{CellValue, null, value_view}
 use Rattle.block_summary.specs.Ranges.{RangeOf, AreRangesOf}
@@ -12,14 +12,13 @@ use Rattle.block_summary.specs.declared.test.Test.{Test}
 use Rattle.cell_types.specs.declared.comparison.ComparisonOperator.{ComparisonOperator}
 use Rattle.cell_types.specs.declared.kind.ColumnKind.{ColumnKind}
 use Rattle.cell_types.specs.declared.kind.ColumnKind.TheVariants.{Text, Number}
-use Rattle.cell_types.specs.declared.kind.NumberKind.TheVariants.{Date}
 use Rattle.cell_types.specs.declared.comparison.ComparisonOperator.TheVariants as operators
 use Rattle.typed_trees.specs.TypedTree.{NumberExprOf, TextExprOf, TruthExprOf}
 use Rattle.row_eval.specs.declared.truth.Truth.{Truth}
-use Rattle.row_eval.specs.Comparison.{compared, day_cmp, holds}
+use Rattle.row_eval.specs.Comparison.{compared, holds}
 use Rattle.row_eval.specs.Logic.{truth_of}
 use Rattle.row_eval.specs.Outcome.{number_outcome, text_outcome, truth_outcome}
-use Rattle.row_eval.specs.Row.{day_in, number_in, text_in}
+use Rattle.row_eval.specs.Row.{number_in, text_in}
 
 -- cells of a row of a table, among rows whose columns have these ranges
 pub record IsRowWithin (ranges : List RangeOf) (cells : List CellValue) : Type 0 where
@@ -79,7 +78,6 @@ AreOfKind kind ranges place = (cells : List CellValue) → IsRowWithin ranges ce
 -- what a comparison says of two cells of a kind
 abbrev pub holds_between : ColumnKind → ComparisonOperator → CellValue → CellValue → Bool
 holds_between Text o a b = holds o (compared (slice_cmp nat_cmp) (text_in a) (text_in b))
-holds_between (Number Date) o a b = holds o (compared day_cmp (day_in a) (day_in b))
 holds_between (Number kind) o a b = holds o (compared int_cmp (number_in kind a) (number_in kind b))
 
 -- a comparison of the cell at a place with a literal has this truth, on each such row
@@ -94,4 +92,5 @@ IsConstantNumber e number = (cells : List CellValue) → number_outcome e cells 
 
 pub record IsConstantText (e : TextExprOf) (value : CellValue) : Type 0 where
   pub kind : is_of_kind Text value ≡ true
+  pub day : HasRealDay value
   pub each : (cells : List CellValue) → text_outcome e cells ≡ text_in value

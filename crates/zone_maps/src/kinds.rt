@@ -2,12 +2,10 @@
 
 ghost use Rattle.std.specs.Prelude.{◌≡◌};
 ghost use Rattle.cell_types.specs.Value.{text as text_cell, value_view};
-ghost use Rattle.cell_types.specs.declared.kind.ColumnKind.TheVariants.{Number};
 ghost use Rattle.zone_maps.specs.Known.{Encloses};
 
 use block_summary::Test;
-use cell_types::{ColumnKind, ComparisonOperator, NumberKind, Value};
-use jiff_core::civil::Date;
+use cell_types::{ColumnKind, ComparisonOperator, Value, typed_value};
 use std::borrow::CowStr;
 
 /// Returns a test.
@@ -25,38 +23,22 @@ fn text(text: &'static str) -> Value<'static>
 }
 
 /// Returns two tests: all values of the kinds before this one pass the first, and all of the kinds after it pass the second.
-fn tests_around_numbers(kind: NumberKind) -> (Test<'static>, Test<'static>)
-    ensures { Encloses (Number kind) result.0 result.1 }
-{
-    match kind {
-        NumberKind::Integer => (
-            test(ComparisonOperator::LessThan, Value::Null),
-            test(ComparisonOperator::GreaterOrEqual, text("")),
-        ),
-        NumberKind::Boolean => (
-            test(ComparisonOperator::LessThan, Value::Bool(false)),
-            test(ComparisonOperator::GreaterThan, Value::Bool(true)),
-        ),
-        NumberKind::Date => (
-            test(ComparisonOperator::LessOrEqual, Value::Bool(true)),
-            test(ComparisonOperator::GreaterThan, Value::Date(Date::MAX)),
-        ),
-        NumberKind::Decimal => (
-            test(
-                ComparisonOperator::LessThan,
-                Value::Decimal(i128::from(i64::MIN)),
-            ),
-            test(ComparisonOperator::LessThan, Value::Null),
-        ),
-    }
-}
-
-/// Returns two tests: all values of the kinds before this one pass the first, and all of the kinds after it pass the second.
 pub fn tests_around(kind: ColumnKind) -> (Test<'static>, Test<'static>)
     ensures { Encloses kind result.0 result.1 }
 {
+    cell_types::numbers_stand_for_cells();
+    cell_types::values_are_ordered();
     match kind {
-        ColumnKind::Number(kind) => tests_around_numbers(kind),
+        ColumnKind::Number(kind) => (
+            test(
+                ComparisonOperator::LessThan,
+                typed_value(kind, kind.least()),
+            ),
+            test(
+                ComparisonOperator::GreaterThan,
+                typed_value(kind, kind.greatest()),
+            ),
+        ),
         ColumnKind::Text => (
             test(ComparisonOperator::LessThan, text("")),
             test(ComparisonOperator::GreaterOrEqual, Value::Bool(false)),

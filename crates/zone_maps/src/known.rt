@@ -5,11 +5,10 @@ ghost use Rattle.typed_trees.specs.TypedTree.{compare_numbers, compare_texts, nu
 ghost use Rattle.zone_maps.specs.Known.{IsKnown};
 
 use crate::constants::{constant_number, constant_text};
-use crate::numbers::number_value;
 use crate::tests::{is_each, known_comparison};
 use block_summary::Summary;
-use cell_types::{ColumnKind, ComparisonOperator, Value, dates_read_back};
-use row_eval::{Truth, dates_are_compared, truth_of};
+use cell_types::{ColumnKind, ComparisonOperator, Value, numbers_stand_for_cells, value_of_number};
+use row_eval::{Truth, truth_of};
 use typed_trees::{NumberExpr, TextExpr, TruthExpr};
 
 /// Returns a column of numbers, compared with a number.
@@ -22,13 +21,12 @@ fn known_numbers(
     ensures { IfSome result (IsKnown
         (compare_numbers operator (number_view left.now) (number_view right.now)) summary.now) }
 {
-    dates_read_back();
-    dates_are_compared();
+    numbers_stand_for_cells();
     let NumberExpr::Column(kind, place) = left else {
         return None;
     };
     let number = constant_number(right)?;
-    let literal = number_value(*kind, number)?;
+    let literal = value_of_number(*kind, number)?;
     known_comparison(
         summary,
         ColumnKind::Number(*kind),

@@ -10,4 +10,4 @@ mod tests;
 
 pub use constants::constant_number;
 pub use known::known_truth;
-pub use numbers::{number_value, numbers_are_tested};
+pub use numbers::numbers_are_tested;

@@ -1,14 +1,17 @@
 //! What a comparison of a column with a literal says of all rows of a block, told by the range of the column.
 
 ghost use Rattle.std.specs.Prelude.{◌≡◌, false, true, List, IfSome, IsTrue};
-ghost use Rattle.cell_types.specs.Kind.{is_of_kind};
+ghost use Rattle.cell_types.specs.Kind.{is_of_kind, HasRealDay};
 ghost use Rattle.cell_types.specs.Value.{CellValue, value_view};
 ghost use Rattle.block_summary.specs.Ranges.{is_null};
 ghost use Rattle.zone_maps.specs.Known.{cell_at_place, opposite_of as opposite_of_comparison, HaveCellAlone, AreOfKind, HasOpposite, HasTruth, IsRowWithin, Says};
 
 use crate::kinds::tests_around;
 use block_summary::{Summary, Test, admits, skips_no_row};
-use cell_types::{ColumnKind, ComparisonOperator, Value, values_are_ordered};
+use cell_types::{
+    ColumnKind, ComparisonOperator, Value, dates_read_back, numbers_stand_for_cells,
+    values_are_ordered,
+};
 use row_eval::{Truth, truth_of};
 
 fn opposite_of(comparison: ComparisonOperator) -> ComparisonOperator
@@ -109,10 +112,14 @@ pub fn known_comparison(
     place: usize,
     literal: Value<'_>,
 ) -> Option<Truth>
-    requires { is_of_kind kind (value_view literal) ≡ true }
+    requires kind { is_of_kind kind (value_view literal) ≡ true }
+    requires day { HasRealDay (value_view literal) }
     ensures { IfSome result
         (HasTruth kind operator summary.now place (value_view literal.entry)) }
 {
+    dates_read_back();
+    numbers_stand_for_cells();
+    values_are_ordered();
     if !are_of_kind(summary, place, kind) {
         return None;
     }

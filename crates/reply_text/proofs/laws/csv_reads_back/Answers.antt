@@ -5,6 +5,6 @@ use Rattle.reply_text.proofs.laws.csv_reads_back.Goals as goal
 
 pub returns : goal.returns
 returns c = record {
-  some = λ rows lines. (records_of_rows rows, rows_are_records rows lines);
-  each = λ rows records lines are. c.one_list_of_records.ensures (csv_text rows) records (records_of_rows rows) are (rows_are_records rows lines);
+  some = λ rows lines. (records_of_rows rows, rows_are_records c.values_read_back.ensures rows lines);
+  each = λ rows records lines are. c.one_list_of_records.ensures (csv_text rows) records (records_of_rows rows) are (rows_are_records c.values_read_back.ensures rows lines);
 }

@@ -2,11 +2,6 @@ use Rattle.row_columns.specs.Numbers.{numbers_from}
 use Rattle.row_columns.proofs.BlockLemmas.{column_of_rows, first_within}
 use Rattle.row_columns.proofs.block_rows.BlockRows.column.Goals as goal
 
-pub cells-requires : goal.cells-requires
-cells-requires c =
-    let rows = c.self.inside in
-    first_within rows.piece.now rows.first rows.len c.args.col c.self.invariant.0 (rw (← c.self.view_is) at c.requires)
-
 pub returns : goal.returns
 returns c =
     let rows = c.self.inside in

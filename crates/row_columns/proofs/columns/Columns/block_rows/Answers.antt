@@ -1,20 +1,11 @@
-use Rattle.std.proofs.Common.{◌≡◌, ◌+◌, ◌<◌, ◌≤◌, ℕ, List, drop, get_or, length, take, subst, ap, ◌∙◌, arith}
+use Rattle.std.proofs.Common.{◌≡◌, ◌+◌, ◌≤◌, List, drop, length, take, subst, ap, ◌∙◌, arith}
 use Rattle.std.specs.Prelude.{IfSome}
 use Rattle.std.proofs.lemmas.List.{length-map}
-use Rattle.std.proofs.lemmas.List.Elements.{All-from_recursion}
 use Rattle.cell_types.specs.Value.{CellValue}
 use Rattle.row_columns.specs.Columns.{ColumnsOf}
-use Rattle.row_columns.specs.Store.{end_of, stored_row}
+use Rattle.row_columns.specs.Store.{stored_row}
 use Rattle.row_columns.proofs.BlockLemmas.{some_of_run}
 use Rattle.row_columns.proofs.columns.Columns.block_rows.Goals as goal
-
-pub block_rows-requires-clause-number : goal.block_rows-requires-clause-number
-block_rows-requires-clause-number c =
-    let numbers = c.self.inside.numbers in
-    let store = c.self.inside.store in
-    let long : c.args.row + c.args.count ≤ length numbers = omega (arith, c.requires, ap (λ (s : ColumnsOf). length s.rows) c.self.view_is, length-map numbers (stored_row store)) in
-    let within : get_or numbers c.args.row 0 < end_of store = All-from_recursion (λ (n : ℕ). n < end_of store) numbers c.self.invariant.within c.args.row 0 (omega (arith, long)) in
-    omega (arith, within, c.at.ensures)
 
 pub returns : goal.returns
 returns c =

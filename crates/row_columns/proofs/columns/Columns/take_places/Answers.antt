@@ -1,14 +1,5 @@
-use Rattle.std.proofs.Common.{◌+◌, ◌<◌, ◌^◌, map}
-use Rattle.std.proofs.lemmas.List.Elements.{All-from_recursion}
-use Rattle.row_columns.specs.Store.{end_of}
-use Rattle.row_columns.proofs.RowLemmas.{all_below, rows_with, within_with}
+use Rattle.row_columns.proofs.RowLemmas.{rows_with, within_with}
 use Rattle.row_columns.proofs.columns.Columns.take_places.Goals as goal
-
-pub append-requires : goal.append-requires
-append-requires c =
-    let new = c.take.new.self in
-    let made = map (λ row. c.in_ok-start.start + row) c.in_ok-start.rows in
-    All-from_recursion (λ n. n < 2 ^ 32) made (all_below (end_of new) (2 ^ 32) made c.in_ok-start.ensures.few c.in_ok-start.ensures.taken.within)
 
 pub invariant_of-self-2 : goal.invariant_of-self-2
 invariant_of-self-2 c =

@@ -2,10 +2,6 @@ use Rattle.std.proofs.Common.{arith}
 use Rattle.row_columns.proofs.BlockLemmas.{rows_of_block}
 use Rattle.row_columns.proofs.store.Store.block_rows.Goals as goal
 
-pub index-requires : goal.index-requires
-index-requires c =
-    omega (arith, rw c.in-Blocks.is at c.requires.number, c.in-Blocks.pieces.ok.0)
-
 pub returns : goal.returns
 returns c =
     let pieces = c.in-Blocks.pieces.items in

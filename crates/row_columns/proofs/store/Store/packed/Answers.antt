@@ -1,23 +1,9 @@
-use Rattle.row_columns.specs.Kinds.{of_kind}
 use Rattle.std.proofs.Common.{◌-◌, ◌<◌, length, vec_len, sym, ◌∙◌, arith}
-use Rattle.std.proofs.lemmas.List.{length-map}
-use Rattle.row_columns.specs.declared.store.Store.TheVariants.{Blocks}
 use Rattle.row_columns.specs.Numbers.{numbers_from}
-use Rattle.row_columns.specs.Store.{stored_kinds, IsStoredWide}
 use Rattle.row_selection.proofs.NumberLemmas.{length-from}
 use Rattle.row_columns.proofs.PackedLemmas.{from_last, packed_rows}
-use Rattle.row_columns.proofs.StoreLemmas.{piece_wide, some_there}
+use Rattle.row_columns.proofs.StoreLemmas.{some_there}
 use Rattle.row_columns.proofs.store.Store.packed.Goals as goal
-
-pub packed-requires : goal.packed-requires
-packed-requires c =
-    let kinds = c.in-Blocks.field-0 in
-    let pieces = c.in-Blocks.pieces in
-    let wide : IsStoredWide (Blocks kinds pieces) = rw c.in-Blocks.is at c.requires.wide in
-    let within : c.args.col < length (stored_kinds (Blocks kinds pieces)) = rw c.in-Blocks.is at c.requires.col in
-    let last = c.len-last.result - 1 in
-    let inside : last < length pieces.items = omega (arith, c.len-last.ensures, some_there (vec_len pieces) (sym c.is_empty.ensures ∙ c.if-is_empty.false), pieces.ok.0) in
-    omega (arith, within, length-map kinds.items of_kind, piece_wide pieces.items (length kinds.items) last c.index.result.now wide inside c.index.ensures)
 
 pub returns : goal.returns
 returns c =

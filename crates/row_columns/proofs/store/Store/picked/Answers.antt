@@ -1,5 +1,4 @@
-use Rattle.std.proofs.Common.{arith}
-use Rattle.row_columns.proofs.StoreLemmas.{blocks_picked, kinds_long, values_picked}
+use Rattle.row_columns.proofs.StoreLemmas.{blocks_picked, values_picked}
 use Rattle.row_columns.proofs.store.Store.picked.Goals as goal
 
 pub returns-in_ok-pieces_picked-in-Blocks : goal.returns-in_ok-pieces_picked-in-Blocks
@@ -9,9 +8,6 @@ returns-in_ok-pieces_picked-in-Blocks c =
     let pieces = c.in_ok-pieces_picked-in-Blocks.field-0 in
     rw c.in-Blocks.is (blocks_picked places c.in-Blocks.kinds kinds c.in-Blocks.pieces pieces
     (rw c.as_slice.ensures.value at c.in_ok-kinds-in-Blocks.ensures) (rw c.as_slice-in-Blocks.ensures.value at c.in_ok-pieces_picked-in-Blocks.ensures))
-
-pub picked-requires : goal.picked-requires
-picked-requires c = λ k d h. omega (arith, c.requires.places k d h, kinds_long c.args.self.now c.in-Values.rows c.in-Values.is)
 
 pub returns-in_ok-picked-in-Values : goal.returns-in_ok-picked-in-Values
 returns-in_ok-picked-in-Values c =

@@ -1,6 +1,0 @@
-use Rattle.std.proofs.Common.{arith}
-use Rattle.std.proofs.lemmas.Int.{ints}
-use Rattle.zone_maps.proofs.numbers.day_value.Goals as goal
-
-pub returns : goal.returns
-returns c = c.day_at.ensures c.args.number (omega (arith, ints))
