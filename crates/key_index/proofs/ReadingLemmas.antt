@@ -59,11 +59,6 @@ module _ (places : List ℕ) (columns : List ColumnCells) (rows : ℕ) (seats : 
         distinct = rw all_keys at (sym are.repeated ∙ none);
       }
 
--- fewer rows are left
-pub fewer_seats : (places : List ℕ) (columns : List ColumnCells) (rows : ℕ) (seats new : Seats) → new.row ≡ min (length (typed_keys places columns rows)) (seats.row + 4096)
-    → new.row < length (typed_keys places columns rows) → held_left rows (held_by.Slots new) < held_left rows (held_by.Slots seats)
-fewer_seats places columns rows seats new is more = omega (arith, is, more, typed_keys-le places columns rows)
-
 -- the keys of all rows rise
 pub all_rising : ((a b : CellValue) → IsTrue (value_eq a b) ↔ (a ≡ b)) → (places : List ℕ) (columns : List ColumnCells) (rows : ℕ) (rise : Rise) → rise.row ≡ rows
     → Rises (λ row. row_key places (typed_row row columns)) rise → AreKeysOf (Rising rows) (typed_keys places columns rows)

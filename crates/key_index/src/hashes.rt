@@ -3,7 +3,7 @@ ghost use Rattle.std.specs.Prelude.{◌≡◌, map};
 ghost use Rattle.cell_types.specs.Value.{value_view};
 ghost use Rattle.key_index.specs.Hashes.{hash_cell, key_hash};
 
-use cell_types::{Value, day_number};
+use cell_types::{Value, number_of};
 use std::hash::{FoldHasher, Hasher};
 
 /// Writes a value into a hasher.
@@ -11,11 +11,12 @@ fn hash_value(hasher: &mut FoldHasher, value: &Value<'_>)
     ensures { hasher.new ≡ hash_cell hasher.old (value_view value.now) }
 {
     match value {
-        Value::Null => {}
-        Value::Int(number) | Value::Decimal(number) => hasher.write_i128(*number),
         Value::Text(text) => hasher.write(text.as_str().as_bytes()),
-        Value::Bool(truth) => hasher.write_u8(u8::from(*truth)),
-        Value::Date(date) => hasher.write_i64(day_number(*date)),
+        _ => {
+            if let Some(number) = number_of(value) {
+                hasher.write_i128(number);
+            }
+        }
     }
 }
 

@@ -1,4 +1,4 @@
-use Rattle.std.proofs.Common.{◌∙◌, ap, arith, length, map, refl, replicate, sym, true}
+use Rattle.std.proofs.Common.{◌∙◌, ap, length, map, refl, sym}
 use Rattle.typed_trees.specs.TypedTree.{boxed_truth}
 use Rattle.row_selection.specs.Marks.{marked_numbers}
 use Rattle.block_filter.proofs.FirstLemmas.{first_marked}
@@ -14,12 +14,6 @@ returns c =
     (rw c.deref-2.ensures.value at c.in_ok-rows.ensures.within)
     (rw c.deref.ensures.value at c.count_of-count.ensures) refl
 
-pub of_marks-requires-clause-few : goal.of_marks-requires-clause-few
-of_marks-requires-clause-few c = omega (arith, ap length c.deref-2.ensures.value, c.in_ok-wanted.ensures.long, c.rows_are_few.ensures)
-
 pub of_marks-requires-clause-count : goal.of_marks-requires-clause-count
 of_marks-requires-clause-count c =
     (rw c.deref.ensures.value at c.count_of-count.ensures) ∙ sym (numbers_count c.in_ok-wanted.field-0.wanted.items) ∙ ap (λ ms. length (marked_numbers 0 ms)) (sym c.deref-2.ensures.value)
-
-pub passing_rows-requires-clause-wanted : goal.passing_rows-requires-clause-wanted
-passing_rows-requires-clause-wanted c = c.in_ok-all.ensures.items_if_clones_equal (λ y e. e) ∙ ap (λ n. replicate n true) c.rows-2.ensures

@@ -30,18 +30,6 @@ returns-then-count_of-eq0 c =
     none_wanted (map boxed_truth c.args.conditions.now) (map boxed_truth (drop c.loop-condition.condition-index c.args.conditions.now)) c.args.block.now.rows _ none
     c.loop-condition.invariant.long c.loop-condition.invariant.left
 
-pub block_columns-requires : goal.block_columns-requires
-block_columns-requires c = rw c.as_slice.ensures.value c.in_ok-texts.ensures
-
-pub narrow_by-requires-clause-columns : goal.narrow_by-requires-clause-columns
-narrow_by-requires-clause-columns c = rw c.deref-in-loop-condition-2.ensures.value c.in_ok-columns.ensures
-
-pub narrow_by-requires-clause-fits : goal.narrow_by-requires-clause-fits
-narrow_by-requires-clause-fits c = λ row h m.
-    let next = next_condition c.args.conditions.now c.loop-condition.condition-index c.condition-item.result c.loop-condition-test.true c.condition-item.is in
-    let left = rw next at c.loop-condition.invariant.left in
-    rw c.deref-in-loop-condition.ensures ((left.fits row h (rw c.as_mut_slice.ensures.value at m)).0)
-
 pub loop-condition-preserved : goal.loop-condition-preserved
 loop-condition-preserved c =
     let was = c.loop-condition.wanted in

@@ -8,9 +8,6 @@ use Rattle.key_index.specs.Keys.{typed_row}
 use Rattle.key_index.proofs.RowLemmas.{key_value}
 use Rattle.key_index.proofs.cells.has_key.Goals as goal
 
-pub returns-then-key-places-clause-no : goal.returns-then-key-places-clause-no
-returns-then-key-places-clause-no c _ same = c.if-key-places.true (simp length-map at (ap length same))
-
 pub returns-then-ne-clause-no : goal.returns-then-ne-clause-no
 returns-then-ne-clause-no c _ same =
     let key = c.args.key.now in

@@ -5,7 +5,7 @@ use Rattle.key_index.specs.Key.{has_null, repeated_row, row_key}
 use Rattle.key_index.specs.Keys.{typed_keys, typed_row}
 use Rattle.key_index.specs.Slots.{free_slots, AreSeated}
 use Rattle.key_index.specs.Reading.{SeatsRows}
-use Rattle.key_index.proofs.RowLemmas.{none_when, not_repeated, null_here, repeated_here, some_when, still_repeated, typed_key, typed_keys-le, whole_more}
+use Rattle.key_index.proofs.RowLemmas.{none_when, not_repeated, null_here, repeated_here, some_when, still_repeated, typed_key, whole_more}
 use Rattle.key_index.proofs.reading.seat_rows.Goals.{then-is_none+then-not-seat, else-is_none, else-is_none-via-then-is_none+else-not-seat, else-is_none-via-else-is_none}
 use Rattle.key_index.proofs.reading.seat_rows.Goals as goal
 
@@ -76,10 +76,6 @@ loop-row-preserved c =
             }
       ]
     ]
-
-pub seat-requires-clause-few : goal.seat-requires-clause-few
-seat-requires-clause-few c =
-    omega (arith, ap length c.as_mut_slice.ensures.value, c.loop-row.invariant.long, typed_keys-le c.args.places.now c.args.columns.now c.args.rows, c.requires.few)
 
 pub returns-clause-seats : goal.returns-clause-seats
 returns-clause-seats c =
