@@ -1,12 +1,8 @@
 -- Crates above may cite this file: rows after values.
-use Rattle.std.proofs.Common.{◌≡◌, ℕ, zero, suc, ◌+◌, ◌-◌, ◌<◌, ◌≤◌, Some, List, [], ◌∷◌, ◌++◌, length, map, get_or, refl, sym, subst, ap, ◌∙◌, arith}
-use Rattle.std.specs.Prelude.{Vec, slice_get}
-use Rattle.std.specs.declared.alloc.Global.{Global}
-use Rattle.std.proofs.lemmas.List.{get_or-map, length-map}
+use Rattle.std.proofs.Common.{◌≡◌, ℕ, zero, suc, ◌+◌, ◌-◌, ◌<◌, ◌≤◌, Some, List, [], ◌∷◌, ◌++◌, length, get_or, refl, sym, subst, ap, ◌∙◌, arith}
+use Rattle.std.specs.Prelude.{slice_get}
 use Rattle.std.proofs.lemmas.Option.{get_or_from_slice_get, slice_get-get_or}
-use Rattle.block_summary.specs.Rows.{row_views}
-use Rattle.cell_types.specs.Value.{CellValue, null, value_view}
-use Rattle.cell_types.specs.declared.value.Value.{Value}
+use Rattle.cell_types.specs.Value.{CellValue, null}
 use Rattle.order_columns.specs.Items.{extended, extended_from, values_before, ItemRows}
 
 pub extended_long : (values : List (List CellValue)) (n : ℕ) (rows : List (List CellValue)) → length (extended_from values n rows) ≡ length rows
@@ -50,28 +46,20 @@ value_after (v ∷ values) n row (suc place) h =
 
 -- ---- a value of the rows, by the columns of values and those of a table
 
-module _ (values : List (Vec Value Global)) (rows : List (List CellValue)) (number place : ℕ) (h : number < length rows) where
+module _ (values rows : List (List CellValue)) (number place : ℕ) (h : number < length rows) where
   abbrev all : List (List CellValue)
-  all = extended (row_views values) rows
+  all = extended values rows
 
-  here : get_or (get_or all number []) place null ≡ get_or (values_before (row_views values) number ++ get_or rows number []) place null
-  here = ap (λ row. get_or row place null) (extended_at (row_views values) rows number h)
+  here : get_or (get_or all number []) place null ≡ get_or (values_before values number ++ get_or rows number []) place null
+  here = ap (λ row. get_or row place null) (extended_at values rows number h)
 
   -- among the first
-  pub kept_there : (column : Vec Value Global) → place < length values → column ≡ get_or values place column
-      → get_or (get_or all number []) place null ≡ get_or (map value_view column.items) number null
-  kept_there column within at =
-      let views : Vec Value Global → List CellValue = λ v. map value_view v.items in
-      let long = length-map values views in
-      here ∙ value_before (row_views values) number (get_or rows number []) place [] (omega (arith, within, long))
-      ∙ ap (λ v. get_or v number null) (get_or-map views values place column [] within ∙ ap views (sym at))
+  pub kept_there : (column : List CellValue) → place < length values → column ≡ get_or values place column → get_or (get_or all number []) place null ≡ get_or column number null
+  kept_there column within at = here ∙ value_before values number (get_or rows number []) place column within ∙ ap (λ v. get_or v number null) (sym at)
 
   -- or after them
   pub table_there : length values ≤ place → get_or (get_or all number []) place null ≡ get_or (get_or rows number []) (place - length values) null
-  table_there past =
-      let long = length-map values (λ (v : Vec Value Global). map value_view v.items) in
-      here ∙ value_after (row_views values) number (get_or rows number []) place (omega (arith, past, long))
-      ∙ ap (λ n. get_or (get_or rows number []) (place - n) null) long
+  table_there past = here ∙ value_after values number (get_or rows number []) place past
 
 pub within_rows : (values rows : List (List CellValue)) (seen : ItemRows) (number : ℕ) → record { rows = extended values rows } ≡ seen → number < length seen.rows → number < length rows
 within_rows values rows seen number is h =

@@ -1,15 +1,12 @@
 -- The values of items that are kept as rows come.
 use Rattle.std.proofs.Common.{◌≡◌, ℕ, zero, suc, add-one, ◌+◌, ◌<◌, ◌≤◌, Bool, true, false, ◌||◌, Option, Some, None, cond, List, [], ◌∷◌, ◌++◌, append-nil, append_assoc, length, map, take, drop, drop-cons, get_or, set, refl, sym, ap, ◌∙◌, subst, arith}
-use Rattle.std.specs.Prelude.{Err, Vec, is_none, is_some, option_and_then, slice_get}
-use Rattle.std.specs.declared.alloc.Global.{Global}
+use Rattle.std.specs.Prelude.{Err, is_none, is_some, option_and_then, slice_get}
 use Rattle.std.proofs.Math.Bool.{or-true}
 use Rattle.std.specs.List.{list_any, All, AllByRecursion}
 use Rattle.std.specs.Option.{unwrap_or}
-use Rattle.std.proofs.lemmas.List.{drop_all, get_or-map, length-map, length-take, map-append, map_more, map_push, take_all, take-append-drop}
+use Rattle.std.proofs.lemmas.List.{drop_all, get_or-map, length-map, length-take, map-append, map_more, take_all, take-append-drop}
 use Rattle.std.proofs.lemmas.Option.{get_or_from_slice_get}
-use Rattle.block_summary.specs.Rows.{row_views}
 use Rattle.cell_types.specs.Value.{CellValue, null, value_view}
-use Rattle.cell_types.specs.declared.value.Value.{Value}
 use Rattle.typed_trees.specs.TypedTree.{TypedExprOf, typed_view}
 use Rattle.row_eval.specs.Bounds.{NumbersFit}
 use Rattle.row_eval.specs.Outcome.{outcome}
@@ -17,9 +14,9 @@ use Rattle.row_eval.specs.Result.{Evaluates}
 use Rattle.row_eval.specs.declared.fault.EvalFault.{EvalFault}
 use Rattle.row_eval.specs.declared.fault.EvalFault.TheVariants.{DivisionByZero, NoMemory}
 use Rattle.query_meaning.specs.Order.{Item, item_value, order_faults}
-use Rattle.odata_query.specs.Plain.{as_column}
+use Rattle.typed_trees.specs.Plain.{as_column}
 use Rattle.odata_query.specs.Query.{order_view}
-use Rattle.odata_query.specs.declared.plain.PlainColumn.{PlainColumn}
+use Rattle.typed_trees.specs.declared.plain.PlainColumn.{PlainColumn}
 use Rattle.odata_query.specs.declared.query.OrderBy.{OrderBy}
 use Rattle.order_columns.specs.Items.{column_after, expression_faults, kept_values, table_column, expression_value, KeepsMore, KeepValues, PushesValues}
 use Rattle.order_columns.proofs.PlainLemmas.{columns_are}
@@ -68,13 +65,11 @@ value_faults e rows first n old now row concatenates DivisionByZero h at is rest
 value_faults e rows first n old now row concatenates NoMemory h at is rest = tt
 
 -- or a value more
-pub value_pushed : (e : TypedExprOf) (rows : List (List CellValue)) (first n : ℕ) (old : List CellValue) (now new : List Value) (row : List CellValue) (value made : Value)
-    → n < length rows → slice_get rows n ≡ Some row → outcome e row ≡ Some (value_view value) → value_view made ≡ value_view value → new ≡ now ++ made ∷ []
-    → HasRest e rows first n old (map value_view now) → HasRest e rows first (n + 1) old (map value_view new)
-value_pushed e rows first n old now new row value made h at is copy push rest =
-    subst (HasRest e rows first (n + 1) old) (sym (ap (map value_view) push ∙ map_push value_view now made))
-    (rest_pushed e rows first n old (map value_view now) (value_view made) h
-    (ap (outcome e) (get_or_from_slice_get rows n row [] at) ∙ is ∙ ap (λ v. Some v) (sym copy)) rest)
+pub value_pushed : (e : TypedExprOf) (rows : List (List CellValue)) (first n : ℕ) (old now new row : List CellValue) (value : CellValue) → n < length rows
+    → slice_get rows n ≡ Some row → outcome e row ≡ Some value → new ≡ now ++ value ∷ [] → HasRest e rows first n old now → HasRest e rows first (n + 1) old new
+value_pushed e rows first n old now new row value h at is push rest =
+    subst (HasRest e rows first (n + 1) old) (sym push)
+    (rest_pushed e rows first n old now value h (ap (outcome e) (get_or_from_slice_get rows n row [] at) ∙ is) rest)
 
 -- ---- faults of items
 
@@ -258,12 +253,6 @@ pub keep_faults : (all : List OrderBy) (more : List (List CellValue)) (i : ℕ) 
     → i < length all → get_or all i item ≡ item → PushesValues (typed_view item.expression) more before after (Err fault) → KeepsMore (map order_view all) more old new (Err fault)
 keep_faults all more i item old new before after DivisionByZero within at faults = item_faults all more i item within at faults
 keep_faults all more i item old new before after NoMemory within at faults = tt
-
--- values that are kept, as they are seen
-pub views_set : (values : List (Vec Value Global)) (i : ℕ) (made : Vec Value Global) → row_views (set values i made) ≡ set (row_views values) i (map value_view made.items)
-views_set [] i made = refl
-views_set (v ∷ values) zero made = refl
-views_set (v ∷ values) (suc i) made = ap (λ l. map value_view v.items ∷ l) (views_set values i made)
 
 pub fit_at : (all : List OrderBy) (rows : List (List CellValue)) (i : ℕ) (item : OrderBy) → i < length all → get_or all i item ≡ item
     → All (λ row. All (λ o. NumbersFit o.0 row) (map order_view all)) rows → All (NumbersFit (typed_view item.expression)) rows

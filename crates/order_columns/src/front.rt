@@ -1,10 +1,10 @@
 //! The bytes with which the texts of a column may begin. They are guessed: a text that begins with others is put in order all the same.
-ghost use Rattle.std.specs.Prelude.{◌≡◌};
+ghost use Rattle.std.specs.Prelude.{◌≡◌, []};
 ghost use Rattle.order_columns.specs.Plain.{front_bytes};
 
 use block_summary::{Range, Summary};
 use cell_types::{ColumnKind, Value};
-use odata_query::PlainColumn;
+use typed_trees::PlainColumn;
 
 /// The most bytes of a front.
 const MOST: usize = 64;
@@ -18,7 +18,9 @@ pub struct TextFront {
 
 impl TextFront {
     /// Returns no bytes.
-    pub(crate) fn none() -> TextFront {
+    pub fn none() -> TextFront
+        ensures { front_bytes result ≡ [] }
+    {
         TextFront {
             bytes: [0; MOST],
             len: 0,

@@ -1,53 +1,52 @@
 //! The columns that items of an order are: those of a table, and before them the values of items that are computed.
 ghost use Rattle.std.specs.Prelude.{◌≡◌, ◌<◌, [], get_or, length, map, option_map, slice_get, slice_index_or, IfOk, Some};
-ghost use Rattle.block_summary.specs.Rows.{row_views};
 ghost use Rattle.cell_types.specs.Value.{value_view, null};
 ghost use Rattle.row_eval.specs.Row.{text_in};
 ghost use Rattle.order_columns.specs.Items.{extended, values_before};
 
-use cell_types::{Value, lent};
+use cell_types::Value;
 use row_columns::Columns;
 use std::alloc::{AllocError, Global};
 use std::marker::Model;
+use value_rows::{LentValue, PackedValues};
 
 /// The columns of a table after columns of values. They are seen as rows, each of which begins with its values.
 #[derive(Drop)]
 pub struct ItemColumns<'a> {
     columns: &'a Columns,
-    computed: &'a [Vec<Value<'static>>],
+    computed: &'a [PackedValues],
 }
 
 impl<'a> Model for ItemColumns<'a> {
-    ghost use Rattle.block_summary.specs.Rows.{row_views};
     ghost use Rattle.order_columns.specs.Items.{extended, ItemRows};
 
     ghost Value = { ItemRows };
 
-    ghost view = { λ c. record { rows = extended (row_views c.computed.now) c.columns.now.rows } };
+    ghost view = { λ c. record { rows = extended c.computed.now c.columns.now.rows } };
 }
 
 /// Returns the value that a column has for a row, or null if it has none.
-fn kept_value<'c>(values: &'c [Value<'static>], number: usize) -> Value<'c>
-    ensures { value_view result ≡ slice_index_or (map value_view values.now) number null }
+fn kept_value(values: &PackedValues, number: usize) -> Value<'_>
+    ensures { value_view result ≡ slice_index_or values.now number null }
 {
-    match values.get(number) {
-        Some(value) => lent(value),
-        None => Value::Null,
+    if number < values.len() {
+        return values.value(number);
     }
+    Value::Null
 }
 
 /// Returns the values that columns have for a row.
 fn kept_row<'c>(
     alloc: Global,
-    computed: &'c [Vec<Value<'static>>],
+    computed: &'c [PackedValues],
     number: usize,
 ) -> Result<Vec<Value<'c>>, AllocError>
     ensures { IfOk result
-        (λ made. map value_view made.items ≡ values_before (row_views computed.now) number) }
+        (λ made. map value_view made.items ≡ values_before computed.now number) }
 {
     let mut values = Vec::with_capacity(alloc, computed.len())?;
     for column in computed {
-        values.push(kept_value(column.as_slice(), number))?;
+        values.push(kept_value(column, number))?;
     }
     Ok(values)
 }
@@ -79,13 +78,16 @@ fn table_text(columns: &Columns, number: usize, place: usize) -> Option<&str>
 }
 
 /// Returns the text that a column has for a row, or `None` if it has another value or none.
-fn kept_text<'c>(values: &'c [Value<'static>], number: usize) -> Option<&'c str>
-    ensures { option_map (λ t. t.now) result
-        ≡ text_in (slice_index_or (map value_view values.now) number null) }
+fn kept_text(values: &PackedValues, number: usize) -> Option<&str>
+    ensures { option_map (λ t. t.now) result ≡ text_in (slice_index_or values.now number null) }
 {
-    match values.get(number) {
-        Some(Value::Text(text)) => Some(text.as_str()),
-        Some(_) | None => None,
+    if number >= values.len() {
+        return None;
+    }
+    match values.lent(number) {
+        LentValue::Text(text) => Some(text),
+        LentValue::Other(Value::Text(text)) => Some(text.as_str()),
+        _ => None,
     }
 }
 
@@ -101,8 +103,8 @@ impl<'a> ItemColumns<'a> {
     }
 
     /// Returns the columns of a table after columns of values.
-    pub fn after(columns: &'a Columns, computed: &'a [Vec<Value<'static>>]) -> ItemColumns<'a>
-        ensures { result.rows ≡ extended (row_views computed.now) columns.now.rows }
+    pub fn after(columns: &'a Columns, computed: &'a [PackedValues]) -> ItemColumns<'a>
+        ensures { result.rows ≡ extended computed.now columns.now.rows }
     {
         ItemColumns { columns, computed }
     }
@@ -121,7 +123,7 @@ impl<'a> ItemColumns<'a> {
             ≡ get_or (slice_index_or self.now.rows number []) place null }
     {
         match self.computed.get(place) {
-            Some(values) => kept_value(values.as_slice(), number),
+            Some(values) => kept_value(values, number),
             None => table_value(self.columns, number, place - self.computed.len()),
         }
     }
@@ -133,7 +135,7 @@ impl<'a> ItemColumns<'a> {
             ≡ text_in (get_or (slice_index_or self.now.rows number []) place null) }
     {
         match self.computed.get(place) {
-            Some(values) => kept_text(values.as_slice(), number),
+            Some(values) => kept_text(values, number),
             None => table_text(self.columns, number, place - self.computed.len()),
         }
     }

@@ -2,24 +2,20 @@
 //! 5.1.5).
 ghost use Rattle.std.specs.Prelude.{◌≡◌, [], drop, length, map, replicate, IfOk, OnOk};
 ghost use Rattle.std.specs.List.{All};
-ghost use Rattle.block_summary.specs.Rows.{row_views};
-ghost use Rattle.cell_types.specs.Value.{value_view};
-ghost use Rattle.cell_types.specs.declared.kind.ColumnKind.TheVariants.{Number};
 ghost use Rattle.typed_trees.specs.TypedTree.{typed_view};
-ghost use Rattle.odata_query.specs.Plain.{plain_at};
 ghost use Rattle.odata_query.specs.Query.{order_view};
 ghost use Rattle.row_eval.specs.Bounds.{NumbersFit};
-ghost use Rattle.order_columns.specs.Items.{column_of_item, expression_kind, table_column as table_column_of, KeepsMore, OrderAsItems, PushesValues};
+ghost use Rattle.order_columns.specs.Items.{column_of_item, table_column as table_column_of, KeepsMore, OrderAsItems, PushesValues};
 ghost use Rattle.order_columns.specs.Plain.{AreItemColumns, IsPlainColumn};
 
 use crate::front::FrontGuess;
 use crate::plain::{PlainItem, is_repeated};
-use cell_types::{ColumnKind, NumberKind, Value, owned};
-use odata_query::{OrderBy, PlainColumn, plain_column};
+use odata_query::OrderBy;
 use row_columns::Columns;
 use row_eval::{EvalFault, eval};
 use std::alloc::{AllocError, Global};
-use typed_trees::{DateExpr, NumberExpr, TextExpr, TruthExpr, TypedExpr};
+use typed_trees::{PlainColumn, TypedExpr, columns_are_columns, plain_column};
+use value_rows::PackedValues;
 
 /// Returns the column that an expression is, after `before` others. `None` if it is none, or its number does not fit.
 fn table_column(expression: &TypedExpr, before: usize) -> Option<PlainColumn>
@@ -30,19 +26,6 @@ fn table_column(expression: &TypedExpr, before: usize) -> Option<PlainColumn>
     Some(PlainColumn { place, ..column })
 }
 
-/// Returns the kind of an expression's values.
-fn expression_kind(expression: &TypedExpr) -> ColumnKind
-    ensures { result ≡ expression_kind (typed_view expression.now) }
-{
-    match expression {
-        TypedExpr::Null | TypedExpr::Text(_) => ColumnKind::Text,
-        TypedExpr::Integer(_, _) => ColumnKind::Number(NumberKind::Integer),
-        TypedExpr::Boolean(_) => ColumnKind::Number(NumberKind::Boolean),
-        TypedExpr::Date(_) => ColumnKind::Number(NumberKind::Date),
-        TypedExpr::Decimal(_, _) => ColumnKind::Number(NumberKind::Decimal),
-    }
-}
-
 /// Returns the column that the item at `place` of `count` is: that of its values, unless it is a column of the table.
 fn item_column(expression: &TypedExpr, place: usize, count: usize) -> PlainColumn
     ensures { result ≡ column_of_item count place (typed_view expression.now) }
@@ -50,7 +33,7 @@ fn item_column(expression: &TypedExpr, place: usize, count: usize) -> PlainColum
     match table_column(expression, count) {
         Some(column) => column,
         None => PlainColumn {
-            kind: expression_kind(expression),
+            kind: expression.kind(),
             place,
         },
     }
@@ -81,35 +64,12 @@ pub fn deciding_columns(
     Ok(columns)
 }
 
-/// Returns the expression that is a column of a kind other than texts.
-fn number_expression(alloc: Global, kind: NumberKind, place: usize) -> Result<TypedExpr, AllocError>
-    ensures { IfOk result (λ made. IsPlainColumn (typed_view made) (plain_at (Number kind) place)) }
-{
-    match kind {
-        NumberKind::Date => Ok(TypedExpr::Date(DateExpr::Column(place))),
-        NumberKind::Boolean => {
-            Ok(TypedExpr::Boolean(Box::new(alloc, TruthExpr::Column(place))?))
-        }
-        NumberKind::Integer => {
-            let number = NumberExpr::Column(NumberKind::Integer, place);
-            Ok(TypedExpr::Integer(Box::new(alloc, number)?, u128::MAX))
-        }
-        NumberKind::Decimal => {
-            let number = NumberExpr::Column(NumberKind::Decimal, place);
-            Ok(TypedExpr::Decimal(Box::new(alloc, number)?, u128::MAX))
-        }
-    }
-}
-
 /// Returns the expression that is a column.
 fn column_expression(alloc: Global, column: PlainColumn) -> Result<TypedExpr, AllocError>
     ensures { IfOk result (λ made. IsPlainColumn (typed_view made) column) }
 {
-    let place = column.place;
-    match column.kind {
-        ColumnKind::Text => { Ok(TypedExpr::Text(Box::new(alloc, TextExpr::Column(place))?)) }
-        ColumnKind::Number(kind) => number_expression(alloc, kind, place),
-    }
+    columns_are_columns();
+    TypedExpr::column(alloc, column.kind, column.place, u128::MAX)
 }
 
 /// Returns items that are these columns.
@@ -129,12 +89,12 @@ pub fn column_items(alloc: Global, columns: &[PlainItem]) -> Result<Vec<OrderBy>
 }
 
 /// Returns no values yet for each of `count` items.
-pub fn no_values(alloc: Global, count: usize) -> Result<Vec<Vec<Value<'static>>>, AllocError>
-    ensures { IfOk result (λ made. row_views made.items ≡ replicate count []) }
+pub fn no_values(alloc: Global, count: usize) -> Result<Vec<PackedValues>, AllocError>
+    ensures { IfOk result (λ made. made.items ≡ replicate count []) }
 {
     let mut values = Vec::with_capacity(alloc, count)?;
     for _ in 0..count {
-        values.push(Vec::new(alloc))?;
+        values.push(PackedValues::new(alloc))?;
     }
     Ok(values)
 }
@@ -145,18 +105,16 @@ fn push_values(
     columns: &Columns,
     first: usize,
     expression: &TypedExpr,
-    values: &mut Vec<Value<'static>>,
+    values: &mut PackedValues,
 ) -> Result<(), EvalFault>
     requires { All (NumbersFit (typed_view expression.now)) columns.now.rows }
-    ensures { PushesValues (typed_view expression.now) (drop first columns.now.rows)
-        (map value_view values.old.items) (map value_view values.new.items) result }
+    ensures { PushesValues (typed_view expression.now) (drop first columns.now.rows) values.old
+        values.new result }
 {
     for number in first..columns.len() {
         let row = columns.row(alloc, number)?;
         let value = eval(alloc, expression, row.as_slice())?;
-        values
-            .push(owned(alloc, &value)?)
-            .map_err(AllocError::from)?;
+        values.push(alloc, &value)?;
     }
     Ok(())
 }
@@ -167,14 +125,14 @@ pub fn keep_values(
     columns: &Columns,
     first: usize,
     items: &[OrderBy],
-    values: &mut Vec<Vec<Value<'static>>>,
+    values: &mut Vec<PackedValues>,
 ) -> Result<(), EvalFault>
     requires long { length values.old.items ≡ length items.now }
     requires fits { All (λ row. All (λ item. NumbersFit item.0 row) (map order_view items.now))
         columns.now.rows }
     ensures long { length values.new.items ≡ length values.old.items }
     ensures keeps { KeepsMore (map order_view items.now) (drop first columns.now.rows)
-        (row_views values.old.items) (row_views values.new.items) result }
+        values.old.items values.new.items result }
 {
     for (place, item) in items.iter().enumerate() {
         if table_column(&item.expression, items.len()).is_some() {

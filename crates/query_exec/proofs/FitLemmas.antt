@@ -98,7 +98,3 @@ after_piece (Some slice) nodes names fits =
       names_are = fits.names_are;
       fit = fits.fit.1 _ refl;
     }
-
--- columns that are selected next are there
-pub next_within : (places : List ℕ) (nodes : List NodeOf) (names : List (List ℕ)) → FitNames names (projecting places ∷ nodes) → All (λ place. place < length names) places
-next_within places nodes names fits = rw fits.names_are at fits.fit.0

@@ -12,7 +12,7 @@ use Rattle.block_summary.specs.Ranges.{is_null}
 use Rattle.cell_types.specs.declared.kind.ColumnKind.{ColumnKind}
 use Rattle.cell_types.specs.declared.kind.ColumnKind.TheVariants.{Text, Number}
 use Rattle.cell_types.specs.Value.{CellValue, boolean, decimal, integer, null, text, value_cmp}
-use Rattle.cell_types.specs.Kind.{number_of_truth}
+use Rattle.cell_types.specs.Kind.{number_of_truth, of_kind}
 use Rattle.cell_types.specs.declared.comparison.ComparisonOperator.{ComparisonOperator}
 use Rattle.cell_types.specs.declared.comparison.ComparisonOperator.TheVariants.{GreaterOrEqual, GreaterThan, NotEqual}
 use Rattle.cell_types.specs.declared.kind.NumberKind.TheVariants as numbers
@@ -27,11 +27,11 @@ use Rattle.row_eval.specs.Logic.{opposite, truth_of}
 use Rattle.row_eval.specs.Outcome.{both, date_outcome, day_value, number_outcome, or_null, text_outcome, truth_outcome}
 use Rattle.row_eval.specs.Row.{boolean_in, cell, day_in, decimal_in, integer_in, number_in, text_in}
 use Rattle.query_meaning.specs.Order.{Item, item_value}
-use Rattle.odata_query.specs.Plain.{plain_at}
+use Rattle.typed_trees.specs.Plain.{plain_at}
 use Rattle.sort_rows.specs.Cutoffs.{first_value, is_before, is_near, may_precede, moved_to, order_between, IsComparison, IsTest, IsTestOfColumn}
-use Rattle.order_columns.specs.Plain.{column_value, of_kind, IsPlainColumn}
-use Rattle.odata_query.specs.declared.plain.PlainColumn.{PlainColumn}
-use Rattle.order_columns.proofs.PlainLemmas.{read_there, then_in_turn, value_is}
+use Rattle.order_columns.specs.Plain.{column_value, IsPlainColumn}
+use Rattle.typed_trees.specs.declared.plain.PlainColumn.{PlainColumn}
+use Rattle.order_columns.proofs.PlainLemmas.{day_there, decimal_there, integer_there, read_there, text_there, then_in_turn, truth_there, value_is}
 
 -- ---- a column, compared with a value
 
@@ -54,10 +54,11 @@ module _ {X : Type 0} (make : X → CellValue) (cmp : X → X → Ordering) (som
   between (Some x) (Some y) = ap (λ o. Some o) (sym (same x y)) ∙ sym (order_some (make x) (make y) (some x) (some y))
 
   -- what a reader finds in a column is compared as the cell there
-  there_compared : (read : CellValue → Option X) → read null ≡ None → (o : ComparisonOperator) (row : List CellValue) (col : ℕ) (x : Option X)
-      → truth_of (holds o (compared cmp (cell read row col) x)) ≡ truth_of (holds o (order_between (or_null make (read (get_or row col null))) (or_null make x)))
-  there_compared read none o row col x =
+  there_compared : (kind : ColumnKind) (read : CellValue → Option X) → ((v : CellValue) → or_null make (read v) ≡ of_kind kind v) → read null ≡ None → (o : ComparisonOperator)
+      (row : List CellValue) (col : ℕ) (x : Option X) → truth_of (holds o (compared cmp (cell read row col) x)) ≡ truth_of (holds o (order_between (of_kind kind (get_or row col null)) (or_null make x)))
+  there_compared kind read there none o row col x =
       ap (λ y. truth_of (holds o (compared cmp y x))) (read_there read none row col) ∙ ap (λ order. truth_of (holds o order)) (between (read (get_or row col null)) x)
+      ∙ ap (λ v. truth_of (holds o (order_between v (or_null make x)))) (there (get_or row col null))
 
 pub integers_compared : (o : ComparisonOperator) (col : ℕ) (operand : NumberExprOf) (n : Option ℤ) → ((row : List CellValue) → number_outcome operand row ≡ Some n)
     → ((row : List CellValue) → NumberFits operand row) → IsComparison o (plain_at (Number numbers.Integer) col) (or_null integer n) (compare_numbers o (number_column numbers.Integer col) operand)
@@ -65,7 +66,7 @@ unfolding value_cmp
 integers_compared o col operand n is fits = record {
   outcome = λ row days.
       ap (both (λ x y. truth_of (holds o (compared int_cmp x y))) (Some (cell integer_in row col))) (is row)
-      ∙ ap (λ t. Some t) (there_compared integer int_cmp (λ z. refl) (λ x y. refl) integer_in refl o row col n);
+      ∙ ap (λ t. Some t) (there_compared integer int_cmp (λ z. refl) (λ x y. refl) (Number numbers.Integer) integer_in integer_there refl o row col n);
   fits = λ row. (tt, fits row);
 }
 
@@ -75,7 +76,7 @@ unfolding value_cmp
 decimals_compared o col operand n is fits = record {
   outcome = λ row days.
       ap (both (λ x y. truth_of (holds o (compared int_cmp x y))) (Some (cell decimal_in row col))) (is row)
-      ∙ ap (λ t. Some t) (there_compared decimal int_cmp (λ z. refl) (λ x y. refl) decimal_in refl o row col n);
+      ∙ ap (λ t. Some t) (there_compared decimal int_cmp (λ z. refl) (λ x y. refl) (Number numbers.Decimal) decimal_in decimal_there refl o row col n);
   fits = λ row. (tt, fits row);
 }
 
@@ -91,7 +92,7 @@ dates_compared law o col operand day is calendar fits = record {
   outcome = λ row days.
       law.comparisons o (date_column col) operand row (days col) (subst (λ d. IfSome d IsCalendarDay) (sym (is row)) calendar)
       ∙ ap (λ d. Some (truth_of (holds o (compared day_cmp (cell day_in row col) d)))) (is row)
-      ∙ ap (λ t. Some t) (there_compared day_value day_cmp (λ d. refl) days_in_turn day_in refl o row col day);
+      ∙ ap (λ t. Some t) (there_compared day_value day_cmp (λ d. refl) days_in_turn (Number numbers.Date) day_in day_there refl o row col day);
   fits = λ row. (tt, fits row);
 }
 
@@ -101,7 +102,7 @@ unfolding value_cmp
 texts_compared o col operand t is = record {
   outcome = λ row days.
       ap (λ y. Some (truth_of (holds o (compared (slice_cmp nat_cmp) (cell text_in row col) y)))) (is row)
-      ∙ ap (λ t. Some t) (there_compared text (slice_cmp nat_cmp) (λ x. refl) (λ x y. refl) text_in refl o row col t);
+      ∙ ap (λ t. Some t) (there_compared text (slice_cmp nat_cmp) (λ x. refl) (λ x y. refl) Text text_in text_there refl o row col t);
   fits = λ row. tt;
 }
 
@@ -132,7 +133,7 @@ truths_compared o col operand b is fits = record {
       ap (both (λ x y. truth_of (holds o (compared int_cmp x y))) (Some (cell (number_in numbers.Boolean) row col))) (is row)
       ∙ ap (λ y. Some (truth_of (holds o (compared int_cmp y (option_map number_of_truth b))))) (truth_cell (slice_get row col))
       ∙ ap (λ order. Some (truth_of (holds o order))) (truths_as_numbers x b)
-      ∙ ap (λ t. Some t) (there_compared boolean (λ a b. int_cmp (number_of_truth a) (number_of_truth b)) (λ x. refl) truths_in_turn boolean_in refl o row col b);
+      ∙ ap (λ t. Some t) (there_compared boolean (λ a b. int_cmp (number_of_truth a) (number_of_truth b)) (λ x. refl) truths_in_turn (Number numbers.Boolean) boolean_in truth_there refl o row col b);
   fits = λ row. (tt, fits row);
 }
 

@@ -19,5 +19,6 @@ pub mod StandLemmas
 pub mod StreamLemmas
 pub mod RunKeyLemmas
 pub mod StackLemmas
+pub mod OneValueLemmas
 pub mod RangeLemmas
 pub mod SeenLemmas

@@ -15,9 +15,9 @@ use Rattle.row_eval.specs.Logic.{truth_of}
 use Rattle.row_eval.specs.Outcome.{truth_outcome}
 use Rattle.row_eval.specs.Row.{cell, day_in}
 use Rattle.query_meaning.specs.Order.{Item, directed, item_value, ordered, plain_column, rows_cmp, sorted}
-use Rattle.odata_query.specs.Plain.{plain_at}
+use Rattle.typed_trees.specs.Plain.{plain_at}
 use Rattle.cell_types.specs.declared.kind.ColumnKind.TheVariants.{Number}
-use Rattle.odata_query.specs.declared.plain.PlainColumn.{PlainColumn}
+use Rattle.typed_trees.specs.declared.plain.PlainColumn.{PlainColumn}
 use Rattle.sort_rows.specs.Best.{best_rows}
 use Rattle.order_columns.specs.Plain.{column_value}
 

@@ -5,14 +5,14 @@ ghost use Rattle.cell_types.specs.Value.{CellValue, value_view};
 ghost use Rattle.typed_trees.specs.TypedTree.{compare_numbers, compare_texts, number_column, number_view, text_view, truth_view};
 ghost use Rattle.odata_query.specs.Query.{order_view};
 ghost use Rattle.sort_rows.specs.Cutoffs.{first_place as first_place_of, first_value, is_before, is_near, may_precede, moved_to, ComparesAs, IsComparison, IsTest, IsTestOfColumn};
-ghost use Rattle.odata_query.specs.declared.plain.PlainColumn.{PlainColumn as ColumnOf};
+ghost use Rattle.typed_trees.specs.declared.plain.PlainColumn.{PlainColumn as ColumnOf};
 
 use cell_types::{ColumnKind, ComparisonOperator, NumberKind, Value, number_in};
-use odata_query::{OrderBy, PlainColumn};
+use odata_query::OrderBy;
 use order_columns::{ItemColumns, column_value, item_column};
 use row_columns::Columns;
 use std::alloc::{AllocError, Global};
-use typed_trees::{NumberExpr, TextExpr, TruthExpr};
+use typed_trees::{NumberExpr, PlainColumn, TextExpr, TruthExpr};
 
 /// Returns the comparison of a column of numbers with an operand.
 fn compare_numbers(

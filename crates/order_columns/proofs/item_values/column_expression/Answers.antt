@@ -1,18 +1,13 @@
-use Rattle.std.proofs.Common.{◌∙◌, Some, ap, subst, sym}
-use Rattle.std.specs.Prelude.{IfOk}
-use Rattle.typed_trees.specs.TypedTree as typed
-use Rattle.typed_trees.specs.TypedTree.{text_view, typed_view}
-use Rattle.typed_trees.specs.declared.tree.TextExpr.{TextExpr}
-use Rattle.odata_query.specs.Plain.{as_column, plain_at}
+use Rattle.std.proofs.Common.{◌≡◌, ◌∙◌, ap}
+use Rattle.std.proofs.lemmas.Result.{IfOk-weaker}
+use Rattle.typed_trees.specs.TypedTree.{typed_view}
+use Rattle.typed_trees.specs.Plain.{as_column, kind_expr}
 use Rattle.order_columns.specs.Plain.{IsPlainColumn}
 use Rattle.order_columns.proofs.PlainLemmas.{column_is}
 use Rattle.order_columns.proofs.item_values.column_expression.Goals as goal
 
-pub returns-in_ok-new-in-Text : goal.returns-in_ok-new-in-Text
-returns-in_ok-new-in-Text c =
-    column_is _ c.args.column
-    (ap (λ (e : TextExpr). as_column (typed.text (text_view e))) c.in_ok-new-in-Text.ensures.ok ∙ ap (λ k. Some (plain_at k c.args.column.place)) (sym c.in-Text.is))
-
-pub returns-in-Number : goal.returns-in-Number
-returns-in-Number c =
-    subst (λ k. IfOk c.number_expression.result (λ made. IsPlainColumn (typed_view made) (plain_at k c.args.column.place))) (sym c.in-Number.is) c.number_expression.ensures
+pub returns : goal.returns
+returns c =
+    let column = c.args.column in
+    IfOk-weaker c.column.result (λ made. typed_view made ≡ kind_expr column.place column.kind _) (λ made. IsPlainColumn (typed_view made) column)
+    (λ made is. column_is _ column (ap as_column is ∙ c.columns_are_columns.ensures column.place column.kind _)) c.column.ensures

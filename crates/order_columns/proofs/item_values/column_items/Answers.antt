@@ -1,7 +1,7 @@
 use Rattle.std.proofs.Common.{◌≡◌, ◌∙◌, ◌+◌, ◌++◌, ◌∷◌, [], ap, false, get_or, map, refl, rules, subst, sym, take}
 use Rattle.std.proofs.lemmas.List.{map_push, take_more}
 use Rattle.cell_types.specs.declared.kind.ColumnKind.TheVariants.{Text}
-use Rattle.odata_query.specs.Plain.{plain_at}
+use Rattle.typed_trees.specs.Plain.{plain_at}
 use Rattle.odata_query.specs.Query.{order_view}
 use Rattle.odata_query.specs.declared.query.OrderBy.{OrderBy}
 use Rattle.order_columns.specs.Plain.{AreItemColumns}

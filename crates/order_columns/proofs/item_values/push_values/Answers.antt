@@ -12,15 +12,15 @@ pub returns-in_err-value : goal.returns-in_err-value
 returns-in_err-value c =
     let e = typed_view c.args.expression.now in
     let fault = c.in_err-value.field-0.0 in
-    let given = value_faults e c.args.columns.now.rows c.args.first c.loop-number.number (map value_view c.args.values.now.items) (map value_view c.loop-number.values.items)
-    (map value_view c.in_ok-row.row.items) (concatenates e) fault (search rules) c.in_ok-row.ensures
+    let given = value_faults e c.args.columns.now.rows c.args.first c.loop-number.number c.args.values.now c.loop-number.values (map value_view c.in_ok-row.row.items)
+    (concatenates e) fault (search rules) c.in_ok-row.ensures
     (subst (λ vs. Evaluates value_view (outcome e (map value_view vs)) (concatenates e) (Err fault)) c.as_slice.ensures.value c.in_err-value.ensures) c.loop-number.invariant in
     search (rules, given)
 
 pub loop-number-preserved : goal.loop-number-preserved
 loop-number-preserved c =
     let e = typed_view c.args.expression.now in
-    value_pushed e c.args.columns.now.rows c.args.first c.loop-number.number (map value_view c.args.values.now.items) c.loop-number.values.items c.push.new.self.items
-    (map value_view c.in_ok-row.row.items) c.in_ok-value.value c.in_ok-owned.field-0 (search rules) c.in_ok-row.ensures
-    (subst (λ vs. outcome e (map value_view vs) ≡ Some (value_view c.in_ok-value.value)) c.as_slice.ensures.value c.in_ok-value.ensures) c.in_ok-owned.ensures.copy (search rules)
+    value_pushed e c.args.columns.now.rows c.args.first c.loop-number.number c.args.values.now c.loop-number.values c.push.new.self (map value_view c.in_ok-row.row.items)
+    (value_view c.in_ok-value.value) (search rules) c.in_ok-row.ensures
+    (subst (λ vs. outcome e (map value_view vs) ≡ Some (value_view c.in_ok-value.value)) c.as_slice.ensures.value c.in_ok-value.ensures) c.in_ok-push.ensures.pushed
     c.loop-number.invariant
