@@ -1,5 +1,5 @@
 -- The groups of rows, where one row more comes after them.
-use Rattle.std.proofs.Common.{◌≡◌, ◌↔◌, ℕ, zero, suc, ◌<◌, Bool, true, false, not, cond, ◌||◌, IsTrue, List, [], ◌∷◌, ◌++◌, length, map, filter, get_or, inl, inr, refl, sym, ap, subst, ◌∙◌, arith}
+use Rattle.std.proofs.Common.{◌≡◌, ◌↔◌, ℕ, zero, suc, ◌<◌, Bool, true, false, not, cond, ◌||◌, IsTrue, List, [], ◌∷◌, ◌++◌, length, map, filter, get_or, inl, inr, refl, sym, ap, ◌∙◌, arith}
 use Rattle.std.specs.Prelude.{slice_set}
 use Rattle.std.specs.Cmp.Lexicographic.{pointwise_decides}
 use Rattle.std.specs.List.{AllByRecursion, AllZip, IsDistinct, list_any}
@@ -101,13 +101,10 @@ module _ (equal : (a b : CellValue) → IsTrue (value_eq a b) ↔ (a ≡ b)) (pl
       found_zip [] ts g t z d h is r = absurd (omega arith)
       found_zip (v ∷ vs) [] g t z d h is r = absurd z
       found_zip (v ∷ vs) (u ∷ ts) zero t z d h is r =
-          let own = joins v (subst (λ w. same_values v w ≡ true) is (same_self v)) in (
-            subst (λ p. R p t) (sym own) (subst (λ w. R (rows_of_group places some w ++ row ∷ []) t) (sym is) r),
-            subst (λ ps. AllZip R ps ts) (all_stay vs (others v vs is d.0)) z.1,
-          )
+          (rw (joins v (rw (← is) (same_self v)), is) r, rw (← (all_stay vs (others v vs is d.0))) z.1)
       found_zip (v ∷ vs) (u ∷ ts) (suc g) t z d h is r =
-          let other : same_values v (values_at places row) ≡ false = subst (λ w. same_values v w ≡ false) is (All-from_recursion (λ w. same_values v w ≡ false) vs d.0 g [] (omega arith)) in
-          (subst (λ p. R p u) (sym (stays v other)) z.0, found_zip vs ts g t z.1 d.1 (omega arith) is r)
+          let other : same_values v (values_at places row) ≡ false = rw (← is) (All-from_recursion (λ w. same_values v w ≡ false) vs d.0 g [] (omega arith)) in
+          (rw (stays v other) z.0, found_zip vs ts g t z.1 d.1 (omega arith) is r)
 
     pub more_values : group_values places (some ++ row ∷ []) ≡ insert_key same_values (group_values places some) (values_at places row)
     more_values =

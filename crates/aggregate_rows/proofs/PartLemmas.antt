@@ -62,10 +62,9 @@ pub part_more : (numbers groups : List ℕ) (i : ℕ) (parts : List (Vec ℕ Glo
     → get_or groups i 0 < length parts → part ≡ get_or parts (get_or groups i 0) part → made.items ≡ part.items ++ get_or numbers i 0 ∷ []
     → ArePartsFrom 0 (take i numbers) (take i groups) parts → ArePartsFrom 0 (take (i + 1) numbers) (take (i + 1) groups) (slice_set parts (get_or groups i 0) made)
 part_more numbers groups i parts part made long inside within at push are =
-    subst (λ ns. ArePartsFrom 0 ns (take (i + 1) groups) (slice_set parts (get_or groups i 0) made)) (sym (take_more numbers i 0 inside))
-    (subst (λ gs. ArePartsFrom 0 (take i numbers ++ get_or numbers i 0 ∷ []) gs (slice_set parts (get_or groups i 0) made)) (sym (take_more groups i 0 (omega (arith, inside, long))))
+    rw (take_more numbers i 0 inside, take_more groups i 0 (omega (arith, inside, long)))
     (parts_more 0 (get_or groups i 0) (take i numbers) (take i groups) (get_or numbers i 0) (get_or groups i 0) parts part made (length-take-le i numbers (omega (arith, inside)) ∙ sym (length-take-le i groups (omega (arith, inside, long)))) (omega arith) within are
-    (push ∙ ap (λ (p : Vec ℕ Global). p.items ++ get_or numbers i 0 ∷ []) at)))
+    (push ∙ ap (λ (p : Vec ℕ Global). p.items ++ get_or numbers i 0 ∷ []) at))
 
 pub parts_none : (start : ℕ) (parts : List (Vec ℕ Global)) → AllByRecursion (λ (part : Vec ℕ Global). part.items ≡ []) parts → ArePartsFrom start [] [] parts
 parts_none start [] none = tt

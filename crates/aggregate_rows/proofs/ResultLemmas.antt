@@ -89,9 +89,6 @@ IsOf rows a v = v ≡ computed_value rows a
 
 -- the first of some values are computed of more rows
 module _ (aggregates : List Aggregate) (before after : List (List CellValue)) (values : List CellValue) (i : ℕ) (zip : ZipFrom (IsOf after) (IsOf before) i aggregates values) (inside : i < length aggregates) where
-  pub result_inside : i < length values
-  result_inside = omega (arith, inside, from_long (IsOf after) (IsOf before) aggregates values i zip)
-
   pub its_result : IsOf before (get_or aggregates i Count) (get_or values i null)
   its_result = next_by (IsOf after) (IsOf before) aggregates values i Count null zip inside
 

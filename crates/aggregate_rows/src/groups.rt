@@ -97,7 +97,7 @@ impl Groups {
     }
 
     /// Returns the place of the group with a key, given with its hash.
-    pub(crate) fn place_of<'a>(&self, key: &[Value<'a>], hash: u64) -> Option<usize>
+    pub(crate) fn place_of<'a>(&self, key: &[Value<'a>], hash: u32) -> Option<usize>
         requires { hash ≡ hash_value (fed.slice ⟦<Value<'a> as Hash>⟧.hash_input key.now) }
         ensures some { IfSome result (IsGroupOf self.now (map value_view key.now)) }
         ensures none { result ≡ None
@@ -118,7 +118,7 @@ impl Groups {
         &mut self,
         alloc: Global,
         key: &[Value<'a>],
-        hash: u64,
+        hash: u32,
         aggregates: &[Aggregate],
     ) -> Result<(), AllocError>
         requires hash { hash ≡ hash_value (fed.slice ⟦<Value<'a> as Hash>⟧.hash_input key.now) }

@@ -11,9 +11,9 @@ or_put : (is : Bool) (place : ℕ) (o p : Option ℕ) → option_or (cond is (So
 or_put true place o p = refl
 or_put false place o p = refl
 
-differ : (hash h : ℕ) → (h / 2 ^ 56 ≡ hash / 2 ^ 56 → ⊥) → nat_eq hash h ≡ false
+differ : (hash h : ℕ) → (h / 2 ^ 24 ≡ hash / 2 ^ 24 → ⊥) → nat_eq hash h ≡ false
 differ hash h other = elim (cases_order h hash) [
-  | inl same ↦ absurd (other (ap (λ n. n / 2 ^ 56) same))
+  | inl same ↦ absurd (other (ap (λ n. n / 2 ^ 24) same))
   | inr (inl less) ↦ grind (arith, less)
   | inr (inr more) ↦ grind (arith, more)
 ]
@@ -54,7 +54,7 @@ module _ {S : Type 0} where
 
   -- the last place of a hash, by the parts and the first hashes
   abbrev pub last_in : List (HashMap ℕ ℕ S) → List (ℕ × ℕ) → ℕ → Option ℕ
-  last_in parts first hash = option_or (lookup (nat_eq hash) (entries_at parts (hash / 2 ^ 56))) (lookup (nat_eq hash) first)
+  last_in parts first hash = option_or (lookup (nat_eq hash) (entries_at parts (hash / 2 ^ 24))) (lookup (nat_eq hash) first)
 
   -- the first hashes change, when there are no parts
   pub put-first : (parts : List (HashMap ℕ ℕ S)) (old new : List (ℕ × ℕ)) (hash place : ℕ) → parts ≡ [] → ((h : ℕ) → lookup (nat_eq h) new ≡ cond (nat_eq hash h) (Some place) (lookup (nat_eq h) old))
@@ -64,18 +64,18 @@ module _ {S : Type 0} where
   -- a part that has the same entries
   pub put-none : (parts : List (HashMap ℕ ℕ S)) (first : List (ℕ × ℕ)) (part : ℕ) (new : HashMap ℕ ℕ S) → part < length parts → new.entries ≡ entries_at parts part → (h : ℕ)
       → last_in (slice_set parts part new) first h ≡ last_in parts first h
-  put-none parts first part new within same h = ap (λ es. option_or (lookup (nat_eq h) es) (lookup (nat_eq h) first)) (same-there parts part new within same (h / 2 ^ 56))
+  put-none parts first part new within same h = ap (λ es. option_or (lookup (nat_eq h) es) (lookup (nat_eq h) first)) (same-there parts part new within same (h / 2 ^ 24))
 
   -- a part changes
-  module _ (parts : List (HashMap ℕ ℕ S)) (first : List (ℕ × ℕ)) (part hash place : ℕ) (new : HashMap ℕ ℕ S) (is : part ≡ hash / 2 ^ 56) (within : part < length parts)
+  module _ (parts : List (HashMap ℕ ℕ S)) (first : List (ℕ × ℕ)) (part hash place : ℕ) (new : HashMap ℕ ℕ S) (is : part ≡ hash / 2 ^ 24) (within : part < length parts)
       (put : (h : ℕ) → lookup (nat_eq h) new.entries ≡ cond (nat_eq hash h) (Some place) (lookup (nat_eq h) (entries_at parts part))) where
-    elsewhere : (h : ℕ) → (h / 2 ^ 56 ≡ part → ⊥) → last_in (slice_set parts part new) first h ≡ cond (nat_eq hash h) (Some place) (last_in parts first h)
+    elsewhere : (h : ℕ) → (h / 2 ^ 24 ≡ part → ⊥) → last_in (slice_set parts part new) first h ≡ cond (nat_eq hash h) (Some place) (last_in parts first h)
     elsewhere h other =
         let no : nat_eq hash h ≡ false = differ hash h (λ e. other (e ∙ sym is)) in
-        ap (λ es. option_or (lookup (nat_eq h) es) (lookup (nat_eq h) first)) (set-there parts part (h / 2 ^ 56) new other)
+        ap (λ es. option_or (lookup (nat_eq h) es) (lookup (nat_eq h) first)) (set-there parts part (h / 2 ^ 24) new other)
         ∙ sym (ap (λ b. cond b (Some place) (last_in parts first h)) no)
 
-    here : (h : ℕ) → h / 2 ^ 56 ≡ part → last_in (slice_set parts part new) first h ≡ cond (nat_eq hash h) (Some place) (last_in parts first h)
+    here : (h : ℕ) → h / 2 ^ 24 ≡ part → last_in (slice_set parts part new) first h ≡ cond (nat_eq hash h) (Some place) (last_in parts first h)
     here h e =
         ap (λ at. option_or (lookup (nat_eq h) (entries_at (slice_set parts part new) at)) (lookup (nat_eq h) first)) e
         ∙ ap (λ es. option_or (lookup (nat_eq h) es) (lookup (nat_eq h) first)) (set-here parts part new within)
@@ -84,7 +84,7 @@ module _ {S : Type 0} where
         ∙ ap (λ at. cond (nat_eq hash h) (Some place) (option_or (lookup (nat_eq h) (entries_at parts at)) (lookup (nat_eq h) first))) (sym e)
 
     pub put-part : (h : ℕ) → last_in (slice_set parts part new) first h ≡ cond (nat_eq hash h) (Some place) (last_in parts first h)
-    put-part h = elim (cases_order (h / 2 ^ 56) part) [
+    put-part h = elim (cases_order (h / 2 ^ 24) part) [
       | inl same ↦ here h same
       | inr (inl less) ↦ elsewhere h (λ e. omega (arith, e, less))
       | inr (inr more) ↦ elsewhere h (λ e. omega (arith, e, more))

@@ -25,4 +25,4 @@ first_room (_ ∷ _) room = 0
 
 -- the last place of a hash: of its part, or else of the first hashes
 abbrev pub last_of : LastOf → ℕ → Option ℕ
-last_of last hash = option_or (lookup (nat_eq hash) (slice_index_or last.parts (hash / 2 ^ 56) [])) (lookup (nat_eq hash) last.first)
+last_of last hash = option_or (lookup (nat_eq hash) (slice_index_or last.parts (hash / 2 ^ 24) [])) (lookup (nat_eq hash) last.first)

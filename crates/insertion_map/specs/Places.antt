@@ -1,5 +1,5 @@
 -- Keys in the order in which they came, each with its place among them.
-use Rattle.std.specs.Prelude.{ℕ, Bool, List, [], ◌∷◌, ◌++◌, if◌then◌else◌, map, refl}
+use Rattle.std.specs.Prelude.{ℕ, ◌/◌, ◌^◌, Bool, List, [], ◌∷◌, ◌++◌, if◌then◌else◌, map, refl}
 use Rattle.std.specs.Coded.{Coded, code_by, coded×, coded_list, coded_ℕ}
 use Rattle.std.specs.Hash.{HashWrites}
 use Rattle.std.specs.Hash.FoldHasher.{finish, initial, write}
@@ -20,9 +20,9 @@ keys_of_code {K} code =
 abbrev pub insert_key : {K : Type 0} → (K → K → Bool) → List K → K → List K
 insert_key eq keys key = if list_any (eq key) keys then keys else keys ++ key ∷ []
 
--- the hash of what a key writes
+-- the hash of what a key writes: the upper half of its 64 bits
 abbrev pub hash_value : HashWrites → ℕ
-hash_value writes = finish (fold write initial writes)
+hash_value writes = finish (fold write initial writes) / 2 ^ 32
 
 -- no two keys are equal, and the places are those of the keys' hashes
 pub record ArePlaced {K : Type 0} (eq : K → K → Bool) (hash : K → ℕ) (keys : List K) (places : PlacesOf) : Type 0 where

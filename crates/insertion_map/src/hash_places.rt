@@ -6,17 +6,21 @@ use crate::last_places::LastPlaces;
 use std::alloc::{AllocError, Global};
 use std::marker::Model;
 
-/// Places, counted from 0, each with a hash. The places of a hash are found by it, whatever else is kept of them.
+/// How many places 32 bits tell.
+const MOST_PLACES: usize = 1 << 32;
+
+/// Places, counted from 0, each with a hash. The places of a hash are found by it, whatever else is kept of them. Each takes four bytes, so that there are no more
+/// than 2^32: one more is refused as if memory had run out.
 #[derive(Drop)]
 pub struct HashPlaces {
     /// The last place of each hash.
     last: LastPlaces,
     /// For each place the one before it that has the same hash; the place itself if none has.
-    before: Vec<usize>,
+    before: Vec<u32>,
 }
 
 impl Model for HashPlaces {
-    ghost use Rattle.std.specs.Prelude.{◌-◌};
+    ghost use Rattle.std.specs.Prelude.{◌-◌, ◌^◌};
     ghost use Rattle.std.specs.Vec.{vec_capacity, vec_len};
     ghost use Rattle.insertion_map.specs.Hashes.{PlacesOf, less_of};
 
@@ -25,19 +29,20 @@ impl Model for HashPlaces {
     ghost view = { λ p. record {
       last = p.last;
       before = p.before.items;
-      room = less_of (vec_capacity p.before - vec_len p.before) p.last.room;
+      room = less_of (less_of (vec_capacity p.before - vec_len p.before) p.last.room)
+          (2 ^ 32 - vec_len p.before);
     } };
 }
 
 /// Returns a place on which `test` is true, `place` or one before it that has its hash.
-fn find_from<F: Fn(usize) -> bool>(before: &[usize], place: usize, test: &F) -> Option<usize>
+fn find_from<F: Fn(usize) -> bool>(before: &[u32], place: usize, test: &F) -> Option<usize>
     requires { MayFindFrom (F.pre test.now) before.now place }
     ensures { IsFoundFrom (F.post test.now) before.now place result }
 {
     if test(place) {
         return Some(place);
     }
-    let earlier = before[place];
+    let earlier = before[place] as usize;
     if earlier < place {
         return find_from(before, earlier, test);
     }
@@ -60,6 +65,9 @@ impl HashPlaces {
         ensures places { IfOk result (λ made. ArePlaces made []) }
         ensures room { IfOk result (λ made. places ≤ made.room) }
     {
+        if places > MOST_PLACES {
+            return Err(AllocError);
+        }
         let last = LastPlaces::with_capacity(alloc, places)?;
         let before = Vec::with_capacity(alloc, places)?;
         Ok(HashPlaces { last, before })
@@ -74,19 +82,19 @@ impl HashPlaces {
 
     /// Returns one of the places of a hash on which `test` is true, or `None` if it is true on none of them.
     #[inline(always)]
-    pub fn find<F: Fn(usize) -> bool>(&self, hash: u64, test: F) -> Option<usize>
+    pub fn find<F: Fn(usize) -> bool>(&self, hash: u32, test: F) -> Option<usize>
         requires { MayFindPlace (F.pre test) self.now hash }
         ensures { (hashes : List ℕ) → ArePlaces self.now hashes
             → IsFoundOf (F.post test) hashes hash result }
     {
         match self.last.get(hash) {
-            Some(last) => find_from(self.before.as_slice(), last, &test),
+            Some(last) => find_from(self.before.as_slice(), last as usize, &test),
             None => None,
         }
     }
 
     /// Appends a place that has this hash.
-    pub fn push(&mut self, hash: u64) -> Result<(), AllocError>
+    pub fn push(&mut self, hash: u32) -> Result<(), AllocError>
         requires { (hashes : List ℕ) × ArePlaces self.old hashes }
         ensures pushed { OnOk result ((hashes : List ℕ) → ArePlaces self.old hashes
             → ArePlaces self.new (hashes ++ hash ∷ [])) }
@@ -95,7 +103,11 @@ impl HashPlaces {
         ensures succeeds { 0 < self.old.room → IsOk result }
         ensures room { self.old.room ≤ self.new.room + 1 }
     {
-        let place = self.before.len();
+        let count = self.before.len();
+        if count >= MOST_PLACES {
+            return Err(AllocError);
+        }
+        let place = count as u32;
         let earlier = self.last.get(hash).unwrap_or(place);
         self.before.push(earlier)?;
         match self.last.put(hash, place) {

@@ -15,9 +15,9 @@ const FEW: usize = 4_096;
 pub(crate) struct LastPlaces {
     alloc: Global,
     /// The last places of the first hashes.
-    first: HashMap<u64, usize>,
+    first: HashMap<u32, u32>,
     /// The last places of later hashes, in a part for each top byte.
-    parts: Vec<HashMap<u64, usize>>,
+    parts: Vec<HashMap<u32, u32>>,
 }
 
 impl Model for LastPlaces {
@@ -35,14 +35,14 @@ impl Model for LastPlaces {
 
 /// Returns the number of the part that takes a hash.
 #[inline(always)]
-fn part_of(hash: u64) -> usize
-    ensures { result ≡ hash / 2 ^ 56 }
+fn part_of(hash: u32) -> usize
+    ensures { result ≡ hash / 2 ^ 24 }
 {
-    (hash / 0x100_0000_0000_0000) as usize
+    (hash / 0x100_0000) as usize
 }
 
 /// Puts the last place of a hash into a map.
-fn put_in(map: &mut HashMap<u64, usize>, hash: u64, place: usize) -> Result<(), AllocError>
+fn put_in(map: &mut HashMap<u32, u32>, hash: u32, place: u32) -> Result<(), AllocError>
     ensures put { OnOk result (Updates nat_eq map.old map.new hash (Some place)) }
     ensures refused { OnErr result (map.new.entries ≡ map.old.entries) }
     ensures succeeds { 0 < spare map.old → IsOk result }
@@ -55,7 +55,7 @@ fn put_in(map: &mut HashMap<u64, usize>, hash: u64, place: usize) -> Result<(), 
 }
 
 /// Appends empty parts until there is one with this number.
-fn grow(parts: &mut Vec<HashMap<u64, usize>>, alloc: Global, part: usize) -> Result<(), AllocError>
+fn grow(parts: &mut Vec<HashMap<u32, u32>>, alloc: Global, part: usize) -> Result<(), AllocError>
     ensures parts { (at : ℕ) → entries_at parts.new.items at ≡ entries_at parts.old.items at }
     ensures long { OnOk result (part < length parts.new.items) }
 {
@@ -66,7 +66,7 @@ fn grow(parts: &mut Vec<HashMap<u64, usize>>, alloc: Global, part: usize) -> Res
 }
 
 /// Returns true if the next hash goes into the first map: as long as this has room, or is small.
-fn takes_first(first: &HashMap<u64, usize>, parts: &[HashMap<u64, usize>]) -> bool
+fn takes_first(first: &HashMap<u32, u32>, parts: &[HashMap<u32, u32>]) -> bool
     ensures none { result ≡ true → parts.now ≡ [] }
     ensures full { result ≡ false → parts.now ≡ [] → spare first.now ≡ 0 }
 {
@@ -106,7 +106,7 @@ impl LastPlaces {
 
     /// Returns the last place of a hash.
     #[inline(always)]
-    pub(crate) fn get(&self, hash: u64) -> Option<usize>
+    pub(crate) fn get(&self, hash: u32) -> Option<u32>
         ensures { result ≡ last_of self.now hash }
     {
         let part = part_of(hash);
@@ -119,7 +119,7 @@ impl LastPlaces {
     }
 
     /// Makes a place the last one of a hash.
-    pub(crate) fn put(&mut self, hash: u64, place: usize) -> Result<(), AllocError>
+    pub(crate) fn put(&mut self, hash: u32, place: u32) -> Result<(), AllocError>
         ensures put { OnOk result ((h : ℕ)
             → last_of self.new h ≡ cond (nat_eq hash h) (Some place) (last_of self.old h)) }
         ensures refused { OnErr result ((h : ℕ) → last_of self.new h ≡ last_of self.old h) }

@@ -35,21 +35,21 @@ impl<K: Eq + Hash> Model for KeyPlaces<K> {
 }
 
 /// Returns the hash of a key.
-fn hash_of<K: Hash>(key: &K) -> u64
+fn hash_of<K: Hash>(key: &K) -> u32
     ensures { result ≡ hash_value (K.hash_input key.now) }
 {
     let mut hasher = FoldHasher::default();
     key.hash(&mut hasher);
-    hasher.finish()
+    (hasher.finish() / 0x1_0000_0000) as u32
 }
 
 /// Returns the hash of a list of keys.
-pub fn hash_of_items<K: Hash>(items: &[K]) -> u64
+pub fn hash_of_items<K: Hash>(items: &[K]) -> u32
     ensures { result ≡ hash_value (fed.slice K.hash_input items.now) }
 {
     let mut hasher = FoldHasher::default();
     items.hash(&mut hasher);
-    hasher.finish()
+    (hasher.finish() / 0x1_0000_0000) as u32
 }
 
 impl<K: Eq + Hash> KeyPlaces<K> {
@@ -74,7 +74,7 @@ impl<K: Eq + Hash> KeyPlaces<K> {
     }
 
     /// Returns the place of a key, if it is among those with this hash.
-    fn place_of(&self, key: &K, hash: u64) -> Option<usize>
+    fn place_of(&self, key: &K, hash: u32) -> Option<usize>
         requires { hash ≡ hash_value (K.hash_input key.now) }
         ensures place { result ≡ position (K.eq key.now) self.now.keys }
         ensures found { is_some result ≡ list_any (K.eq key.now) self.now.keys }
@@ -106,7 +106,7 @@ impl<K: Eq + Hash> KeyPlaces<K> {
     }
 
     /// Puts a key with its hash after the others, which are not equal to it.
-    fn push(&mut self, key: K, hash: u64) -> Result<(), AllocError>
+    fn push(&mut self, key: K, hash: u32) -> Result<(), AllocError>
     where
         K: Drop,
         requires hash { hash ≡ hash_value (K.hash_input key) }
@@ -131,14 +131,6 @@ impl<K: Eq + Hash> KeyPlaces<K> {
         ensures { result ≡ length self.now.keys }
     {
         self.keys.len()
-    }
-
-    /// Returns the keys in the order in which they came. It takes no memory.
-    pub fn into_keys(self) -> Vec<K>
-        ensures { result.items ≡ self.keys }
-    {
-        let KeyPlaces { keys, .. } = self;
-        keys
     }
 
     /// Returns true if a key is among them.

@@ -5,7 +5,7 @@ use Rattle.std.specs.Cmp.Lexicographic.{pointwise}
 use Rattle.std.specs.Str.{IsCharBoundary}
 use Rattle.std.proofs.lemmas.List.{append-nil, drop-append-le, drop_at, length-append, length-drop, take-append-le, take_all}
 use Rattle.std.proofs.lemmas.Str.{IsCharBoundary-at_seam, IsCharBoundary-end, IsCharBoundary-start, IsUtf8-nil}
-use Rattle.cell_types.specs.Value.{CellValue, text, value_view}
+use Rattle.cell_types.specs.Value.{text, value_view}
 use Rattle.value_rows.specs.declared.slots.Other.{Other}
 use Rattle.value_rows.specs.declared.slots.Slot.{Slot}
 use Rattle.value_rows.specs.declared.slots.Slot.TheVariants as slots

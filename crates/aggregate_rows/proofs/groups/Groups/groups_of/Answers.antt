@@ -7,7 +7,7 @@ use Rattle.query_meaning.specs.Apply.{values_at}
 use Rattle.row_columns.specs.Picked.{numbered}
 use Rattle.row_codes.specs.Codes.{HaveKeyCodes}
 use Rattle.aggregate_rows.specs.Gathered.{HasGroupMore, IsGroupOf}
-use Rattle.aggregate_rows.specs.Parts.{AreBegun, AreGroupsOf, BeginsGroups}
+use Rattle.aggregate_rows.specs.Parts.{AreGroupsOf}
 use Rattle.aggregate_rows.proofs.BegunLemmas.{keep_groups, keeps_group, known_more}
 use Rattle.row_codes.proofs.CodeLaws.{values-here}
 use Rattle.aggregate_rows.proofs.JoinLemmas.{begun_more, none_more}
@@ -39,8 +39,7 @@ group_of_row-requires-clause-known c =
     let here : values_at places (get_or rows (get_or numbers i 0) []) ≡ have.values_of code = values-here places numbers rows codes have i inside ∙ ap have.values_of (sym code_is) in
     let small : code < length known = omega (arith, have.are.below i coded, code_is, c.loop-i.invariant.long) in
     let there : c.index_mut.result.now ≡ get_or known code None = get_or_read known code c.index_mut.result.now small c.index_mut.ensures.value None in
-    rw c.at-number.ensures (subst (λ o. IfSome o (IsGroupOf c.loop-i.self (values_at places (get_or rows (get_or numbers i 0) [])))) (sym there)
-    (subst (λ vs. IfSome (get_or known code None) (IsGroupOf c.loop-i.self vs)) (sym here) (c.loop-i.invariant.known have code)))
+    rw (c.at-number.ensures, there, here) (c.loop-i.invariant.known have code)
 
 pub loop-i-init : goal.loop-i-init
 loop-i-init c = record {
@@ -76,13 +75,10 @@ loop-i-preserved c =
       long = length-set known code told ∙ c.loop-i.invariant.long;
       shape = has.shape ∙ c.loop-i.invariant.shape;
       begun = λ before held.
-          subst (AreBegun places aggregates new before) (sym next)
-          (begun_more equal places aggregates before (numbered (take i numbers) rows) row old new (c.loop-i.invariant.begun before held) has);
-      found =
-          subst (AreGroupsOf new places (numbered (take (i + 1) numbers) rows)) (sym c.in_ok-push.ensures.items)
-          (subst (λ rs. AreGroupsOf new places rs (found ++ g ∷ [])) (sym next)
+          rw next (begun_more equal places aggregates before (numbered (take i numbers) rows) row old new (c.loop-i.invariant.begun before held) has);
+      found = rw (c.in_ok-push.ensures.items, next)
           (all_zipped_more (λ r h. IsGroupOf new (values_at places r) h) (numbered (take i numbers) rows) found row g
-          (keep_groups old new (values_at places row) has.keys places (numbered (take i numbers) rows) found c.loop-i.invariant.found) is));
+          (keep_groups old new (values_at places row) has.keys places (numbered (take i numbers) rows) found c.loop-i.invariant.found) is);
       known = λ have.
           let coded : i < length (numbered numbers rows) = omega (arith, inside, length-map numbers (λ n. get_or rows n [])) in
           let read : c.index.result.now ≡ get_or codes.codes.items i 0 = get_or_read codes.codes.items i c.index.result.now (omega (arith, coded, have.are.long)) c.index.ensures 0 in
@@ -95,10 +91,8 @@ loop-i-preserved c =
 
 pub returns-clause-groups : goal.returns-clause-groups
 returns-clause-groups c =
-    subst (λ (ns : List ℕ). AreGroupsOf c.loop-i.self c.args.grouping.places.now (numbered ns c.args.columns.now.rows) c.loop-i.groups.items)
-    (take_all c.loop-i.i c.args.numbers.now (omega (arith, c.loop-i-test.false, c.len-i-end.ensures))) c.loop-i.invariant.found
+    rw (take_all c.loop-i.i c.args.numbers.now (omega (arith, c.loop-i-test.false, c.len-i-end.ensures))) at c.loop-i.invariant.found
 
 pub returns-clause-begun : goal.returns-clause-begun
 returns-clause-begun c =
-    subst (λ (ns : List ℕ). BeginsGroups c.args.grouping.places.now c.args.grouping.aggregates.now c.args.self.now c.loop-i.self (numbered ns c.args.columns.now.rows))
-    (take_all c.loop-i.i c.args.numbers.now (omega (arith, c.loop-i-test.false, c.len-i-end.ensures))) c.loop-i.invariant.begun
+    rw (take_all c.loop-i.i c.args.numbers.now (omega (arith, c.loop-i-test.false, c.len-i-end.ensures))) at c.loop-i.invariant.begun

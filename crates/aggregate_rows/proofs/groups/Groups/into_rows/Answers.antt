@@ -1,4 +1,4 @@
-use Rattle.std.proofs.Common.{◌≡◌, ◌+◌, ◌++◌, length, map, replicate, sym, ap, subst, ◌∙◌, arith}
+use Rattle.std.proofs.Common.{◌≡◌, ◌+◌, ◌++◌, length, map, replicate, refl, sym, ap, subst, ◌∙◌, arith}
 use Rattle.std.proofs.lemmas.List.{length-append, length-map, length-replicate}
 use Rattle.std.proofs.lemmas.Result.{IfOk-weaker}
 use Rattle.value_rows.specs.ValueRows.{rows_of}
@@ -60,8 +60,7 @@ returns-clause-kinds c =
     let long : length places ≡ c.args.self.shape.key + length shown =
     omega (arith, key, length-append (numbers_from 0 g.key_width) (map (λ place. g.key_width + place) shown), numbers-long 0 g.key_width, length-map shown (λ place. g.key_width + place)) in
     IfOk-weaker c.picked.result (λ (made : ColumnsOf). made.kinds ≡ kinds_at c.deref.result.now c.in_ok-columns.columns.kinds) (λ (made : ColumnsOf). made.kinds ≡ replicate (c.args.self.shape.key + length shown) any)
-    (λ made is. is ∙ ap (λ ps. kinds_at ps c.in_ok-columns.columns.kinds) are ∙ ap (λ (of : ColumnsOf). kinds_at places of.kinds) c.in_ok-columns.ensures ∙ kinds-any g.width places ∙ ap (λ n. replicate n any) long)
-    c.picked.ensures.kinds
+    (λ made is. rw (is, are, c.in_ok-columns.ensures, kinds-any g.width places, long) refl) c.picked.ensures.kinds
 
 pub returns-clause-rows : goal.returns-clause-rows
 returns-clause-rows c =
@@ -77,6 +76,4 @@ returns-clause-rows c =
     let within = shown-within _ g c.self.invariant shown (subst (λ (s : GroupsOf). HaveShown s shown) (sym c.self.view_is) c.requires) in
     IfOk-weaker c.picked.result (λ (made : ColumnsOf). made.rows ≡ map (values_at c.deref.result.now) (numbered c.deref-2.result.now c.in_ok-columns.columns.rows)) (λ (made : ColumnsOf). MakesRows c.args.self shown made.rows)
     (λ made is. subst (λ (s : GroupsOf). MakesRows s shown made.rows) c.self.view_is (λ of aggregates some has.
-    is ∙ ap (λ ps. map (values_at ps) (numbered c.deref-2.result.now c.in_ok-columns.columns.rows)) are ∙ ap (λ ns. map (values_at places) (numbered ns c.in_ok-columns.columns.rows)) all
-    ∙ ap (λ rs. map (values_at places) (numbered (numbers_from 0 (length rows)) rs)) held ∙ ap (map (values_at places)) (all_numbered rows) ∙ rows-picked _ g c.self.invariant shown within of aggregates some has))
-    c.picked.ensures.rows
+    rw (is, are, all, held, all_numbered rows) (rows-picked _ g c.self.invariant shown within of aggregates some has))) c.picked.ensures.rows

@@ -11,12 +11,12 @@ returns-in-Ok-clause-pushed c hashes are =
     let old = c.args.self.now in
     let last = ap (λ p. p.last) c.self.view_is in
     let before = ap (λ p. p.before) c.self.view_is in
-    let place : c.len-place.result ≡ length old.before = c.len-place.ensures ∙ c.self.inside.before.ok.0 ∙ ap length before in
+    let place : c.len-count.result ≡ length old.before = c.len-count.ensures ∙ c.self.inside.before.ok.0 ∙ ap length before in
     let updates : (h : ℕ) → last_of c.put.new.self h ≡ cond (nat_eq c.args.hash h) (Some (length old.before)) (last_of old.last h) =
     λ h. c.in-Ok.ensures.put h ∙ ap (λ n. cond (nat_eq c.args.hash h) (Some n) (last_of c.self.inside.last h)) place
     ∙ ap (λ l. cond (nat_eq c.args.hash h) (Some (length old.before)) (last_of l h)) last in
     let earlier : c.unwrap_or-earlier.result ≡ unwrap_or (last_of old.last c.args.hash) (length old.before) =
-    c.unwrap_or-earlier.ensures ∙ ap (λ o. unwrap_or o c.len-place.result) (c.get.ensures ∙ ap (λ l. last_of l c.args.hash) last)
+    c.unwrap_or-earlier.ensures ∙ ap (λ o. unwrap_or o c.len-count.result) (c.get.ensures ∙ ap (λ l. last_of l c.args.hash) last)
     ∙ ap (unwrap_or (last_of old.last c.args.hash)) place in
     one-more old hashes are c.args.hash c.put.new.self updates _ refl
     (c.in_ok-push.ensures.items ∙ ap (λ xs. xs ++ c.unwrap_or-earlier.result ∷ []) before ∙ ap (λ x. old.before ++ x ∷ []) earlier)

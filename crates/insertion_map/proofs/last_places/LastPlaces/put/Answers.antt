@@ -48,7 +48,7 @@ returns-clause-put c =
     (λ updates h.
     put-part parts first part c.args.hash c.args.place c.put_in-2.new.map c.part_of-part.ensures within
     (λ q. updates.0 q ∙ ap (λ es. cond (nat_eq c.args.hash q) (Some c.args.place) (lookup (nat_eq q) es)) (sym read)) h
-    ∙ ap (λ es. cond (nat_eq c.args.hash h) (Some c.args.place) (option_or (lookup (nat_eq h) es) (lookup (nat_eq h) first))) (c.grow.ensures.parts (h / 2 ^ 56))
+    ∙ ap (λ es. cond (nat_eq c.args.hash h) (Some c.args.place) (option_or (lookup (nat_eq h) es) (lookup (nat_eq h) first))) (c.grow.ensures.parts (h / 2 ^ 24))
     ∙ ap (λ v. cond (nat_eq c.args.hash h) (Some c.args.place) (last_of v h)) c.self.view_is)
     c.put_in-2.ensures.put
 
@@ -62,7 +62,7 @@ returns-clause-refused c =
     on_err_weaker c.put_in-2.result
     (λ same h.
     put-none parts first part c.put_in-2.new.map within (same ∙ sym read) h
-    ∙ ap (λ es. option_or (lookup (nat_eq h) es) (lookup (nat_eq h) first)) (c.grow.ensures.parts (h / 2 ^ 56))
+    ∙ ap (λ es. option_or (lookup (nat_eq h) es) (lookup (nat_eq h) first)) (c.grow.ensures.parts (h / 2 ^ 24))
     ∙ ap (λ v. last_of v h) c.self.view_is)
     c.put_in-2.ensures.refused
 

@@ -1,4 +1,4 @@
-use Rattle.std.proofs.Common.{◌≡◌, ◌<◌, ◌≤◌, ◌+◌, ℕ, Bool, true, false, not, drop, get_or, length, map, take, inl, inr, refl, sym, ap, ◌∙◌, arith}
+use Rattle.std.proofs.Common.{◌≡◌, ◌<◌, drop, get_or, length, map, take, inl, inr, refl, sym, ◌∙◌, arith}
 use Rattle.std.proofs.lemmas.List.{get_or-drop, get_or-map, get_or-take, length-drop, length-map, length-take-le}
 use Rattle.cell_types.specs.Value.{null, value_eq, value_view}
 use Rattle.value_rows.proofs.PackedLemmas.{less-or-last, not-false, not-true, pointwise-all, pointwise-not}

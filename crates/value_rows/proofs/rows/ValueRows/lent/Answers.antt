@@ -1,4 +1,4 @@
-use Rattle.std.proofs.Common.{◌<◌, ◌+◌, ◌*◌, [], get_or, length, sym, ap, ◌∙◌, arith}
+use Rattle.std.proofs.Common.{◌<◌, [], get_or, length, sym, ap, ◌∙◌, arith}
 use Rattle.cell_types.specs.Value.{null}
 use Rattle.value_rows.specs.ValueRows.{ValueRowsOf}
 use Rattle.value_rows.proofs.RowLaws.{item-at, row-inside, rows-long}
