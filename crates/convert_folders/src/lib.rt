@@ -7,7 +7,6 @@ mod columns;
 mod convert;
 mod forms;
 mod metadata;
-mod passes;
 mod places;
 mod progress;
 mod proposals;
@@ -15,8 +14,8 @@ mod publish;
 mod refusals;
 mod report;
 mod rules;
+mod tables;
 mod warnings;
 
 pub use convert::convert_folder;
-pub use metadata::metadata_of;
 pub use places::names_in;

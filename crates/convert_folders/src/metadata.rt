@@ -1,15 +1,15 @@
 //! The metadata of converted files.
-ghost use Rattle.std.specs.Prelude.{◌≡◌, IfOk};
-ghost use Rattle.schema_inference.specs.Draft.{IsDraft};
+ghost use Rattle.std.specs.Prelude.{◌≡◌};
 
+use crate::tables::Table;
 use cell_types::{Column, Datatype};
-use csvw_meta::{Limits, Schema};
+use csvw_meta::{MOST_TABLES, Schema};
 use file_convert::{ColumnReport, ReportKind};
 use file_sights::NULLS;
-use schema_inference::{DraftFault, accepted_text, table_json};
+use metadata_text::table_json;
+use schema_inference::DraftFault;
 use serde_json::Value;
 use std::alloc::{AllocError, Global};
-use table_store::NamedFile;
 use value_forms::Form;
 
 /// What metadata begins and ends with.
@@ -114,44 +114,28 @@ fn push_table(
     text.extend_from_slice(rest)
 }
 
-/// Returns the text of schemas with the names of the files from which they come.
-fn schemas_text(
-    alloc: Global,
-    schemas: &[Schema],
-    titles: &[String],
-) -> Result<Vec<u8>, AllocError> {
+/// Returns the text of the tables with the names of the files from which they come.
+fn tables_text(alloc: Global, tables: &[Table]) -> Result<Vec<u8>, AllocError> {
     let mut text = Vec::from_slice(alloc, BEFORE)?;
     let mut is_first = true;
-    for (schema, title) in schemas.iter().zip(titles) {
+    for table in tables {
         if !is_first {
             text.extend_from_slice(b",\n")?;
         }
         is_first = false;
-        push_table(alloc, &mut text, schema, title.as_str())?;
+        push_table(alloc, &mut text, &table.schema, table.file.as_str())?;
     }
     text.extend_from_slice(AFTER)?;
     Ok(text)
 }
 
-/// Returns metadata that has the schemas and the names of the files from which these come, as the text of `csv-metadata.json`. A folder of the files with this very
-/// text is served, with the rows of the files: it was loaded.
-pub fn metadata_of(
-    alloc: Global,
-    limits: Limits,
-    tables: (&[Schema], &[String]),
-    files: Vec<NamedFile>,
-) -> Result<Vec<u8>, DraftFault>
-    ensures { IfOk result (λ text. IsDraft limits files.items text.items) }
-{
-    let (schemas, titles) = tables;
-    if schemas.is_empty() {
+/// Returns metadata that has the tables and the names of the files from which these come, as the text of `csv-metadata.json`. It is not checked.
+pub(crate) fn metadata_of(alloc: Global, tables: &[Table]) -> Result<Vec<u8>, DraftFault> {
+    if tables.is_empty() {
         return Err(DraftFault::NoTables);
     }
-    if schemas.len() > limits.tables as usize {
+    if tables.len() > MOST_TABLES as usize {
         return Err(DraftFault::TooManyTables);
     }
-    match schemas_text(alloc, schemas, titles) {
-        Ok(text) => accepted_text(alloc, limits, text, files),
-        Err(_) => Err(DraftFault::NoMemory),
-    }
+    Ok(tables_text(alloc, tables)?)
 }

@@ -1,11 +1,21 @@
 //! A folder that appears whole by one renaming, or not at all.
+ghost use Rattle.convert_folders.specs.Conversions.{IsServedConversion};
+
+use crate::rules::ColumnRule;
+use crate::tables::{Table, write_folder};
+use draft_args::Conversion;
+use schema_inference::DraftFault;
 use served_folders::METADATA;
 use std::fs::{self, File, OpenFile};
 use std::io::{self, Write};
-use std::mem::replace;
 use std::process;
 use std::rt::Files;
-use table_store::NamedFile;
+
+/// The exit status if all was done.
+const DONE: u8 = 0;
+
+/// The exit status of a refused folder.
+const REFUSED: u8 = 1;
 
 /// Writes a new file, and has it reach its device.
 fn write_file(rt: &HostRuntime, path: &str, bytes: &[u8]) -> io::Result<()> {
@@ -14,33 +24,29 @@ fn write_file(rt: &HostRuntime, path: &str, bytes: &[u8]) -> io::Result<()> {
     file.sync_all()
 }
 
-/// A new folder that is not whole yet: its path beside its place, or its files if none is to be written.
-#[derive(Drop)]
-pub struct Half {
-    path: String,
-    is_kept: bool,
-    files: Vec<NamedFile>,
-}
-
 /// Returns a path without the slash at its end.
 fn without_slash(path: &str) -> &str {
     path.trim_end_matches('/')
 }
 
+/// A new folder that is not whole yet: its path beside its place.
+#[derive(Drop)]
+pub struct Half {
+    path: String,
+    /// Nothing is written.
+    is_dry: bool,
+}
+
 impl Half {
-    /// Makes a folder without files under another name beside a path. If it is kept, nothing is made.
-    pub fn new(rt: &HostRuntime, out: &str, is_kept: bool) -> io::Result<Half> {
+    /// Makes a folder without files under another name beside a path. If nothing is to be written, nothing is made.
+    pub fn new(rt: &HostRuntime, out: &str, is_dry: bool) -> io::Result<Half> {
         let number = process::id(rt.process());
         let whole = without_slash(out);
         let path = format!(in rt.alloc(); "{whole}.{number}.half")?;
-        if !is_kept {
+        if !is_dry {
             rt.create_dir(path.as_str())?;
         }
-        Ok(Half {
-            path,
-            is_kept,
-            files: Vec::new(rt.alloc()),
-        })
+        Ok(Half { path, is_dry })
     }
 
     /// Returns the path of a file of the folder.
@@ -48,58 +54,26 @@ impl Half {
         Ok(format!(in rt.alloc(); "{}/{name}", self.path)?)
     }
 
-    /// Makes a file, unless it is to be kept.
+    /// Makes a file, unless nothing is to be written.
     pub fn create(&self, rt: &HostRuntime, name: &str) -> io::Result<Option<File>> {
-        if self.is_kept {
+        if self.is_dry {
             return Ok(None);
         }
         Ok(Some(File::create_new(rt, self.path_of(rt, name)?.as_str())?))
     }
 
-    /// Removes a file that is not whole.
-    pub fn drop_file(&self, rt: &HostRuntime, name: &str) -> io::Result<()> {
-        if self.is_kept {
+    /// Removes the files of the folder.
+    pub fn clear(&self, rt: &HostRuntime) -> io::Result<()> {
+        if self.is_dry {
             return Ok(());
         }
-        fs::remove_file(rt, self.path_of(rt, name)?.as_str())
-    }
-
-    /// Returns a file: that of these bytes if it is kept, else the one that is written.
-    pub fn file(&self, rt: &HostRuntime, name: &str, kept: Vec<u8>) -> io::Result<NamedFile> {
-        let bytes = if self.is_kept {
-            kept
-        } else {
-            fs::read(rt, self.path_of(rt, name)?.as_str())?
-        };
-        Ok(NamedFile {
-            name: String::from_str(rt.alloc(), name)?,
-            bytes,
-        })
-    }
-
-    /// Takes in a file that is a table. It is dropped if it is written.
-    pub fn take_in(&mut self, file: NamedFile) -> io::Result<()> {
-        if self.is_kept {
-            self.files.push(file)?;
-        }
-        Ok(())
-    }
-
-    /// Returns all files of these names.
-    pub fn files(&mut self, rt: &HostRuntime, names: &[String]) -> io::Result<Vec<NamedFile>> {
-        if self.is_kept {
-            return Ok(replace(&mut self.files, Vec::new(rt.alloc())));
-        }
-        let mut files = Vec::new(rt.alloc());
-        for name in names {
-            files.push(self.file(rt, name.as_str(), Vec::new(rt.alloc()))?)?;
-        }
-        Ok(files)
+        fs::remove_dir_all(rt, self.path.as_str())?;
+        rt.create_dir(self.path.as_str())
     }
 
     /// Removes the folder.
     pub fn remove(self, rt: &HostRuntime) {
-        if !self.is_kept {
+        if !self.is_dry {
             let _ = fs::remove_dir_all(rt, self.path.as_str());
         }
     }
@@ -112,14 +86,63 @@ impl Half {
         rt.rename(path, without_slash(out))
     }
 
-    /// Writes the metadata, and gives the folder its name. If a step fails, the folder is removed.
-    pub fn publish(self, rt: &HostRuntime, out: &str, metadata: &[u8]) -> io::Result<()> {
+    /// Writes the metadata, with which the folder is served, and gives it its name. If a step fails, the folder is removed.
+    fn publish(self, rt: &HostRuntime, out: &str, metadata: &[u8]) -> io::Result<()>
+        requires { IsServedConversion metadata.now }
+    {
         match self.finish(rt, out, metadata) {
             Ok(()) => Ok(()),
             Err(error) => {
                 self.remove(rt);
                 Err(error)
             }
+        }
+    }
+}
+
+/// Reports why nothing is written, and returns the exit status.
+fn refuse_for(rt: &HostRuntime, line: &str) -> io::Result<u8> {
+    eprintln!(rt; "refused: {line}")?;
+    Ok(REFUSED)
+}
+
+/// Reports why there is no metadata, and returns the exit status.
+fn refuse_metadata(rt: &HostRuntime, fault: &DraftFault) -> io::Result<u8> {
+    match fault {
+        DraftFault::NoMemory => Err(io::Error::from(io::ErrorKind::OutOfMemory)),
+        DraftFault::NoTables => refuse_for(rt, "no file of the folder is a table"),
+        DraftFault::TooManyTables => refuse_for(rt, "accepted: 256 files at most"),
+        DraftFault::Refused(cause) => refuse_for(rt, cause.text(rt.alloc())?.as_str()),
+    }
+}
+
+/// Writes the tables of a folder and their metadata, and gives it its name, or removes it if nothing is to be written. Returns the exit status.
+pub(crate) fn publish<'x>(
+    rt: &HostRuntime,
+    asks: &Conversion<'x>,
+    rules: &[ColumnRule<'x>],
+    half: Half,
+    tables: &mut [Table],
+) -> io::Result<u8> {
+    match write_folder(rt, asks, rules, &half, tables) {
+        Ok(Ok(text)) if !asks.dry_run => {
+            let out = asks.out;
+            half.publish(rt, out, text.as_slice())?;
+            if !asks.json {
+                println!(rt; "wrote {out}")?;
+            }
+            Ok(DONE)
+        }
+        Ok(made) => {
+            half.remove(rt);
+            match made {
+                Ok(_) => Ok(DONE),
+                Err(fault) => refuse_metadata(rt, &fault),
+            }
+        }
+        Err(error) => {
+            half.remove(rt);
+            Err(error)
         }
     }
 }

@@ -2,6 +2,7 @@
 use crate::report::{About, Report, Status};
 use csv_records::RecordFault;
 use file_convert::ConvertFault;
+use schema_inference::LeftOutCause;
 
 /// Says the lines of rows, and that there are more.
 fn say_lines(report: &mut Report, lines: &[usize], count: usize) {
@@ -56,4 +57,16 @@ pub(crate) fn report_refusal(report: &mut Report, file: &str, fault: &ConvertFau
         }
     }
     report.end(about);
+}
+
+/// Reports why the table that a file becomes is none that is served.
+pub(crate) fn report_left_out(report: &mut Report, file: &str, cause: LeftOutCause) {
+    match cause {
+        LeftOutCause::ManyColumns { columns } => {
+            report.say_count(columns, " columns: accepted: 256 at most");
+        }
+        LeftOutCause::TooLarge => report.say("it becomes a file of more than 1 GiB"),
+        _ => report.say("it becomes no table"),
+    }
+    report.end(About::file(Status::Refused, file));
 }

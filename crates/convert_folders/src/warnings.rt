@@ -5,7 +5,6 @@ use csvw_meta::Schema;
 use draft_warnings::{is_said, push_warning};
 use file_convert::{ColumnReport, ReportKind};
 use schema_inference::{Guess, Warning};
-use table_store::NamedFile;
 
 /// Returns true if a column is one of texts.
 fn is_text(schema: &Schema, col: usize) -> bool {
@@ -38,7 +37,7 @@ pub(crate) fn report_warnings(
     report: &mut Report,
     guess: &Guess,
     columns: &[ColumnReport],
-    file: &NamedFile,
+    name: &str,
 ) {
     let Some(schema) = guess.schemas.first() else {
         return;
@@ -46,8 +45,8 @@ pub(crate) fn report_warnings(
     let all = guess.warnings.as_slice();
     for (place, warning) in all.iter().enumerate() {
         if is_reported(warning, schema, columns) && !is_said(all, place, warning) {
-            push_warning(&mut report.message, warning, guess, file);
-            report.end(About::file(Status::Warned, file.name.as_str()));
+            push_warning(&mut report.message, warning, guess, name);
+            report.end(About::file(Status::Warned, name));
         }
     }
 }

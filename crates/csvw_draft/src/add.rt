@@ -2,7 +2,8 @@
 use crate::splice::{Items, Spliced, member_at};
 use cell_types::Column;
 use csvw_meta::Schema;
-use schema_inference::{column_json, next_name, table_json};
+use metadata_text::{column_json, table_json};
+use schema_inference::next_name;
 use std::alloc::{AllocError, Global};
 use std::mem::replace;
 

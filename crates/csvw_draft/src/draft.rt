@@ -1,18 +1,26 @@
 //! The draft of a folder.
+ghost use Rattle.std.specs.Prelude.{List, IfOk};
+ghost use Rattle.table_store.specs.File.{FileOf};
+ghost use Rattle.folder_checks.specs.FolderChecks.{IsServedBy};
+
 use crate::add::added_text;
-use crate::folder::{file_in, path_in, read_files};
+use crate::check::check_folder;
+use crate::folder::{csv_names, file_in, path_in};
+use crate::guess::guess_files;
 use crate::left_out::{refuse_files, warn_of_left_out};
 use crate::status::DONE;
 use crate::told::{SEE_EXPLAIN, no_memory, print_text, refuse_cause, refuse_for};
 use crate::warning::warn_of;
 use csvw_meta::{Limits, MetaFault, Schema, Schemas};
 use draft_args::DraftOptions;
-use schema_inference::{Aims, DraftFault, accepted_text, draft_of, guess_of};
+use schema_inference::{DraftFault, draft_text};
 use served_folders::METADATA;
+use std::alloc::Global;
 use std::fs::File;
 use std::io::{self, ErrorKind, Write};
 use std::rt::Files;
-use table_store::{LoadFault, NamedFile};
+use std::slice::from_ref;
+use table_store::LoadFault;
 
 /// What is said if the metadata would be written over.
 const NOT_WRITTEN: &str = "csv-metadata.json: the folder has one, which stays as it is";
@@ -75,13 +83,15 @@ fn replace_metadata(rt: &HostRuntime, path: &str, text: &[u8]) -> io::Result<u8>
     Ok(DONE)
 }
 
-/// Gives the text of metadata: prints it, or writes it at a path; and returns the exit status.
+/// Gives the text of metadata, with which a folder is served: prints it, or writes it at a path; and returns the exit status.
 fn give_metadata(
     rt: &HostRuntime,
     asks: &DraftOptions<'_>,
     path: &str,
     text: &[u8],
-) -> io::Result<u8> {
+) -> io::Result<u8>
+    requires { (files : List FileOf) × IsServedBy text.now files }
+{
     if asks.write && asks.add {
         replace_metadata(rt, path, text)
     } else if asks.write {
@@ -93,21 +103,87 @@ fn give_metadata(
 }
 
 /// Returns the metadata of a folder with what is drafted that it does not have yet; as a fault why there is none.
-fn added_draft(
-    rt: &HostRuntime,
-    json: &[u8],
-    drafted: &mut [Schema],
-    files: Vec<NamedFile>,
-) -> Result<Vec<u8>, DraftFault> {
-    let limits = Limits::greatest();
-    let schemas = match Schemas::read(rt.alloc(), json, &limits) {
+fn added_draft(alloc: Global, json: &[u8], drafted: &mut [Schema]) -> Result<Vec<u8>, DraftFault> {
+    let schemas = match Schemas::read(alloc, json, &Limits::greatest()) {
         Ok(schemas) => schemas,
         Err(MetaFault::NoMemory) => return Err(DraftFault::NoMemory),
         Err(fault) => return Err(DraftFault::Refused(LoadFault::Meta(fault))),
     };
-    let old = schemas.tables.as_slice();
-    let text = added_text(rt.alloc(), json, old, drafted)?;
-    accepted_text(rt.alloc(), limits, text, files)
+    Ok(added_text(alloc, json, schemas.tables.as_slice(), drafted)?)
+}
+
+/// Returns the metadata of what is drafted, or what is drafted added to metadata; as a fault why there is none.
+fn made_draft(
+    alloc: Global,
+    drafted: &mut [Schema],
+    old: Option<&[u8]>,
+) -> Result<Vec<u8>, DraftFault> {
+    match old {
+        Some(json) => added_draft(alloc, json, drafted),
+        None => draft_text(alloc, Limits::greatest(), drafted),
+    }
+}
+
+/// Returns a text for the metadata of a folder, if the folder is served with it.
+fn checked_text(
+    rt: &HostRuntime,
+    folder: &str,
+    made: Result<Vec<u8>, DraftFault>,
+) -> io::Result<Result<Vec<u8>, DraftFault>>
+    ensures { IfOk result (λ made. IfOk made (λ text.
+        (files : List FileOf) × IsServedBy text.items files)) }
+{
+    let text = match made {
+        Ok(text) => text,
+        Err(fault) => return Ok(Err(fault)),
+    };
+    match check_folder(rt, folder, text.as_slice())? {
+        Ok(()) => Ok(Ok(text)),
+        Err(LoadFault::NoMemory) => Err(no_memory()),
+        Err(fault) => Ok(Err(DraftFault::Refused(fault))),
+    }
+}
+
+/// Returns true if a text is refused for the key of a table.
+fn is_of_key(checked: &Result<Vec<u8>, DraftFault>) -> bool {
+    match checked {
+        Ok(_) => false,
+        Err(fault) => fault.is_of_key(),
+    }
+}
+
+/// Drops the drafted keys that are none: a first column may seem to be the key.
+fn drop_keys(rt: &HostRuntime, folder: &str, drafted: &mut [Schema]) -> io::Result<()> {
+    for schema in drafted {
+        if schema.key.is_empty() {
+            continue;
+        }
+        let made = draft_text(rt.alloc(), Limits::greatest(), from_ref(schema));
+        if is_of_key(&checked_text(rt, folder, made)?) {
+            schema.key.clear();
+        }
+    }
+    Ok(())
+}
+
+/// Returns the metadata of what is drafted, or what is drafted added to metadata: with it the folder is served.
+fn checked_draft(
+    rt: &HostRuntime,
+    folder: &str,
+    drafted: &mut [Schema],
+    old: Option<&[u8]>,
+) -> io::Result<Result<Vec<u8>, DraftFault>>
+    ensures { IfOk result (λ made. IfOk made (λ text.
+        (files : List FileOf) × IsServedBy text.items files)) }
+{
+    let made = made_draft(rt.alloc(), &mut *drafted, old);
+    let checked = checked_text(rt, folder, made)?;
+    if !is_of_key(&checked) {
+        return Ok(checked);
+    }
+    drop_keys(rt, folder, &mut *drafted)?;
+    let made = made_draft(rt.alloc(), &mut *drafted, old);
+    checked_text(rt, folder, made)
 }
 
 /// Returns the metadata of a folder, if it is asked for and there is one.
@@ -115,7 +191,7 @@ fn old_metadata(rt: &HostRuntime, asks: &DraftOptions<'_>) -> io::Result<Option<
     if !asks.add {
         return Ok(None);
     }
-    match file_in(rt, asks.folder, METADATA, false) {
+    match file_in(rt, asks.folder, METADATA) {
         Ok(json) => Ok(Some(json)),
         Err(error) => match error.kind() {
             ErrorKind::NotFound => Ok(None),
@@ -128,26 +204,19 @@ fn old_metadata(rt: &HostRuntime, asks: &DraftOptions<'_>) -> io::Result<Option<
 fn give_draft(
     rt: &HostRuntime,
     asks: &DraftOptions<'_>,
-    files: Vec<NamedFile>,
+    names: &[String],
     path: &str,
 ) -> io::Result<u8> {
-    let limits = Limits::greatest();
-    let aims = Aims {
-        limits,
-        keys: asks.keys,
-    };
-    let mut guess = guess_of(rt.alloc(), aims, files.as_slice())?;
-    warn_of_left_out(rt, guess.left_out.as_slice(), files.as_slice())?;
-    warn_of(rt, &guess, files.as_slice())?;
-    let status = refuse_files(rt, files.as_slice(), &guess, asks.skip)?;
+    let mut guess = guess_files(rt, asks.folder, names, asks.keys)?;
+    warn_of_left_out(rt, guess.left_out.as_slice(), names)?;
+    warn_of(rt, &guess, names)?;
+    let status = refuse_files(rt, asks, names, &guess)?;
     if status != DONE {
         return Ok(status);
     }
-    let made = match old_metadata(rt, asks)? {
-        Some(json) => added_draft(rt, json.as_slice(), guess.schemas.as_mut_slice(), files),
-        None => draft_of(rt.alloc(), limits, guess.schemas.as_slice(), files),
-    };
-    match made {
+    let old = old_metadata(rt, asks)?;
+    let drafted = guess.schemas.as_mut_slice();
+    match checked_draft(rt, asks.folder, drafted, old.as_deref())? {
         Ok(text) => give_metadata(rt, asks, path, text.as_slice()),
         Err(fault) => refuse_fault(rt, &fault, asks.add),
     }
@@ -159,7 +228,7 @@ pub fn draft_folder(rt: &HostRuntime, asks: &DraftOptions<'_>, tells: bool) -> i
     if asks.write && !asks.add && rt.symlink_metadata(path.as_str()).is_ok() {
         refuse_for(rt, NOT_WRITTEN)
     } else {
-        let files = read_files(rt, asks.folder, tells)?;
-        give_draft(rt, asks, files, path.as_str())
+        let names = csv_names(rt, asks.folder, tells)?;
+        give_draft(rt, asks, names.as_slice(), path.as_str())
     }
 }

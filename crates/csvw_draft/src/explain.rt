@@ -30,7 +30,7 @@ fn refuse_schemas(
         if report.is_full() {
             return Ok(());
         }
-        match file_in(rt, folder, schema.url.as_str(), false) {
+        match file_in(rt, folder, schema.url.as_str()) {
             Ok(bytes) => refuse_table(report, schema, Some(bytes.as_slice())),
             Err(error) => match error.kind() {
                 ErrorKind::NotFound => refuse_table(report, schema, None),
@@ -43,7 +43,7 @@ fn refuse_schemas(
 
 /// Adds what is refused of a folder.
 fn refuse_folder(rt: &HostRuntime, folder: &str, report: &mut Report) -> io::Result<()> {
-    let metadata = file_in(rt, folder, METADATA, false)?;
+    let metadata = file_in(rt, folder, METADATA)?;
     match Schemas::read(rt.alloc(), metadata.as_slice(), &Limits::greatest()) {
         Ok(schemas) => refuse_schemas(rt, folder, schemas.tables.as_slice(), report),
         Err(fault) => {

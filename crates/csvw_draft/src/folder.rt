@@ -3,9 +3,8 @@ use convert_folders::names_in;
 use diagnostics::cut;
 use served_folders::read_plain;
 use std::alloc::{AllocError, Global};
-use std::io::{self, ErrorKind};
+use std::io;
 use std::rt::Files;
-use table_store::NamedFile;
 
 /// A file of at least this many bytes is announced before it is read.
 const LONG: u64 = 50_000_000;
@@ -65,29 +64,23 @@ pub fn path_in(alloc: Global, folder: &str, name: &str) -> Result<String, AllocE
     format!(in alloc; "{folder}/{name}")
 }
 
-/// Announces a long file before it is read, if its length is known.
-fn tell_long(rt: &HostRuntime, path: &str, name: &str) {
-    if let Ok(found) = rt.metadata(path)
-        && found.is_file()
-        && found.len() > LONG
+/// Announces a long file of that many bytes before it is read.
+fn tell_long(rt: &HostRuntime, name: &str, length: u64) {
+    if length > LONG
         && let Ok(name) = cut(rt.alloc(), name)
     {
-        let _ = eprintln!(rt; "reading {name}, {} MB", found.len() / 1_000_000);
+        let _ = eprintln!(rt; "reading {name}, {} MB", length / 1_000_000);
     }
 }
 
-/// Returns the bytes of the plain file of a name in a folder; of a file above the limit its front alone. If someone looks on, it tells of a long one. What is no plain file is
-/// an invalid input.
-pub fn file_in(rt: &HostRuntime, folder: &str, name: &str, tells: bool) -> io::Result<Vec<u8>> {
+/// Returns the bytes of the plain file of a name in a folder; of a file above the limit its front alone. What is no plain file is an invalid input.
+pub fn file_in(rt: &HostRuntime, folder: &str, name: &str) -> io::Result<Vec<u8>> {
     let path = path_in(rt.alloc(), folder, name)?;
-    if tells {
-        tell_long(rt, path.as_str(), name);
-    }
     read_plain(rt.alloc(), rt, path.as_str(), true)
 }
 
-/// Returns the CSV files of a folder, in the order of their names. What is no plain file is reported, and left out.
-pub fn read_files(rt: &HostRuntime, folder: &str, tells: bool) -> io::Result<Vec<NamedFile>> {
+/// Returns the names of the CSV files of a folder, in order. What is no plain file is reported, and left out. If someone looks on, it tells of long ones.
+pub fn csv_names(rt: &HostRuntime, folder: &str, tells: bool) -> io::Result<Vec<String>> {
     let names = names_in(rt, folder)?;
     for name in &names {
         if !is_csv(name.as_str()) && !name.starts_with('.') {
@@ -99,12 +92,15 @@ pub fn read_files(rt: &HostRuntime, folder: &str, tells: bool) -> io::Result<Vec
         if !is_csv(name.as_str()) {
             continue;
         }
-        match file_in(rt, folder, name.as_str(), tells) {
-            Ok(bytes) => files.push(NamedFile { name, bytes })?,
-            Err(error) => match error.kind() {
-                ErrorKind::InvalidInput => warn(rt, name.as_str(), "no plain file", "")?,
-                _ => return Err(error),
-            },
+        let path = path_in(rt.alloc(), folder, name.as_str())?;
+        let found = rt.metadata(path.as_str())?;
+        if found.is_file() {
+            if tells {
+                tell_long(rt, name.as_str(), found.len());
+            }
+            files.push(name)?;
+        } else {
+            warn(rt, name.as_str(), "no plain file", "")?;
         }
     }
     Ok(files)

@@ -3,10 +3,12 @@
 #![tactic(auto)]
 
 mod add;
+mod check;
 mod command;
 mod draft;
 mod explain;
 mod folder;
+mod guess;
 mod left_out;
 mod splice;
 mod status;

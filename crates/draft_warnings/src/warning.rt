@@ -1,9 +1,8 @@
 //! What the publisher of files should look at, and what helps.
-use crate::cells::{push_cell, push_count};
+use crate::counts::push_count;
 use csvw_meta::Schema;
 use diagnostics::Line;
 use schema_inference::{Guess, Warning};
-use table_store::NamedFile;
 
 /// Returns the number of the file of a warning.
 pub fn file_of(warning: &Warning) -> usize {
@@ -152,9 +151,8 @@ fn push_rounding(lines: &mut Line, warning: &Warning, all: &[Warning], schema: &
 }
 
 /// Appends what cells of a column look like, as far as the warning is of that, and the first that looks different.
-fn push_alike(lines: &mut Line, warning: &Warning, file: &NamedFile) {
+fn push_alike(lines: &mut Line, warning: &Warning) {
     if let Warning::Alike {
-        col,
         form,
         cells,
         alike,
@@ -171,17 +169,19 @@ fn push_alike(lines: &mut Line, warning: &Warning, file: &NamedFile) {
         push_count(lines, *cells);
         lines.push(" cells look like ");
         lines.push(form);
-        if let Some(row) = other {
-            lines.push("; ");
-            push_cell(lines, file.bytes.as_slice(), *row, *col);
+        if let Some(cell) = other {
+            lines.push("; line ");
+            lines.push_number(cell.line);
+            lines.push(" is ");
+            lines.push_quoted(cell.text.as_str());
         }
     }
 }
 
 /// Appends what makes a CSV file of a file.
-fn push_command(lines: &mut Line, before: &str, file: &NamedFile, after: &str) {
+fn push_command(lines: &mut Line, before: &str, file: &str, after: &str) {
     lines.push(before);
-    lines.push(file.name.as_str());
+    lines.push(file);
     lines.push(after);
 }
 
@@ -192,7 +192,7 @@ fn push_said(lines: &mut Line, schema: Option<&Schema>, col: usize, text: &str) 
 }
 
 /// Appends what a warning of a column says.
-fn push_of_column(lines: &mut Line, warning: &Warning, schema: Option<&Schema>, file: &NamedFile) {
+fn push_of_column(lines: &mut Line, warning: &Warning, schema: Option<&Schema>) {
     match warning {
         Warning::TwoDates { col, .. } => push_said(lines, schema, *col, TWO_DATES),
         Warning::Version { col, .. } => push_said(lines, schema, *col, VERSION),
@@ -203,7 +203,7 @@ fn push_of_column(lines: &mut Line, warning: &Warning, schema: Option<&Schema>, 
         }
         Warning::Alike { col, .. } => {
             push_said(lines, schema, *col, ": string; ");
-            push_alike(lines, warning, file);
+            push_alike(lines, warning);
         }
         Warning::NullElsewhere {
             col,
@@ -224,8 +224,8 @@ fn push_of_column(lines: &mut Line, warning: &Warning, schema: Option<&Schema>, 
 }
 
 /// Appends what a warning says after the name of its file: the column, if it is of one, and what helps.
-pub fn push_warning(lines: &mut Line, warning: &Warning, guess: &Guess, file: &NamedFile) {
-    let schema = schema_of(guess, file.name.as_str());
+pub fn push_warning(lines: &mut Line, warning: &Warning, guess: &Guess, file: &str) {
+    let schema = schema_of(guess, file);
     let all = guess.warnings.as_slice();
     match warning {
         Warning::OtherSeparator { byte, .. } => {
@@ -257,7 +257,7 @@ pub fn push_warning(lines: &mut Line, warning: &Warning, guess: &Guess, file: &N
                 push_rounding(lines, warning, all, schema);
             }
         }
-        _ => push_of_column(lines, warning, schema, file),
+        _ => push_of_column(lines, warning, schema),
     }
 }
 

@@ -6,20 +6,18 @@ use std::alloc::Global;
 use std::borrow::CowSlice;
 
 /// Returns true if a text that a draft does not know stands for null in a column.
-fn has_guess(column: &ColumnReport) -> bool {
+fn has_unknown(column: &ColumnReport) -> bool {
     let nulls = column.nulls.as_slice();
     [2, 7].iter().any(|place: &usize| nulls.get(*place).is_some_and(|count| *count > 0))
 }
 
-/// Returns a table with empty cells in the place of texts that stand for null and that a draft does not know; `None` if there are none.
-pub fn guess_text(
-    alloc: Global,
-    columns: &[ColumnReport],
-    bytes: &[u8],
-) -> Result<Option<Vec<u8>>, ConvertFault> {
-    if !columns.iter().any(has_guess) {
-        return Ok(None);
-    }
+/// Returns true if texts that a draft does not know stand for null in columns.
+pub fn has_unknown_nulls(columns: &[ColumnReport]) -> bool {
+    columns.iter().any(has_unknown)
+}
+
+/// Returns rows with empty cells in the place of texts that stand for null and that a draft does not know.
+pub fn guess_text(alloc: Global, bytes: &[u8]) -> Result<Vec<u8>, ConvertFault> {
     let mut guess = Vec::with_capacity(alloc, bytes.len())?;
     let mut left = bytes;
     for _row in 0..bytes.len() {
@@ -36,5 +34,5 @@ pub fn guess_text(
         push_row(&mut guess, cells.as_slice())?;
         left = read.rest;
     }
-    Ok(Some(guess))
+    Ok(guess)
 }

@@ -14,6 +14,6 @@ mod sight;
 mod titles;
 
 pub use column_forms::NULLS;
-pub use guess::guess_text;
+pub use guess::{guess_text, has_unknown_nulls};
 pub use passes::{PassFault, found_in};
 pub use pieces::FilePieces;

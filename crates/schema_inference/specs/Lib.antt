@@ -1,4 +1,1 @@
-pub mod Draft
-pub mod Sorted
-pub mod Steps
-pub mod Laws
+pub mod Looks

@@ -1,9 +1,7 @@
 //! The columns of a table.
-ghost use Rattle.csv_index.specs.Index.{FitsFile};
-
-use crate::file::FileTable;
 use crate::names::{next_name, titles_of};
 use cell_types::{Column, Datatype};
+use csv_index::IndexedText;
 use std::alloc::{AllocError, Global};
 use type_inference::Inference;
 
@@ -47,16 +45,14 @@ fn make_column(
 pub(crate) fn make_columns(
     alloc: Global,
     known: &[Inference],
-    file: &FileTable<'_>,
-) -> Result<Vec<Column>, AllocError>
-    requires { FitsFile file.now.index.now file.now.text.now }
-{
+    file: &IndexedText,
+) -> Result<Vec<Column>, AllocError> {
     let mut columns = Vec::new(alloc);
-    for col in 0..file.index.width() {
+    for col in 0..file.width() {
         let Some(seen) = known.get(col) else {
             return Ok(columns);
         };
-        let cell = file.index.header(file.text, col).text(alloc)?;
+        let cell = file.header(col).text(alloc)?;
         let column = make_column(alloc, seen, cell.as_str(), columns.as_slice())?;
         columns.push(column)?;
     }

@@ -18,6 +18,16 @@ pub enum DraftFault {
     NoMemory,
 }
 
+impl DraftFault {
+    /// Returns true if a table is refused for its key.
+    pub fn is_of_key(&self) -> bool {
+        matches!(
+            self,
+            DraftFault::Refused(LoadFault::KeyNull { .. } | LoadFault::KeyTwice { .. })
+        )
+    }
+}
+
 impl From<AllocError> for DraftFault {
     ghost use Rattle.schema_inference.specs.declared.fault.DraftFault.TheVariants.{NoMemory};
 
@@ -33,8 +43,6 @@ impl From<AllocError> for DraftFault {
 pub enum LeftOutCause {
     /// Its name can't be a `url`.
     NotUrl,
-    /// An earlier file has its name.
-    SameName,
     /// It has more bytes than the limit.
     TooLarge,
     /// It is no table.
@@ -50,8 +58,15 @@ pub struct LeftOut {
     pub cause: LeftOutCause,
 }
 
+/// A cell: the line in which it is, and its text.
+#[derive(Drop)]
+pub struct OtherCell {
+    pub line: usize,
+    pub text: String,
+}
+
 /// What the publisher of files that have schemas should look at. Files and columns count from 0.
-#[derive(Clone, Copy)]
+#[derive(Drop)]
 pub enum Warning {
     /// Each cell of a column is a date with the day first, and one with the month first: it is a column of texts.
     TwoDates {
@@ -72,8 +87,8 @@ pub enum Warning {
         /// How many cells there are, and how many look so.
         cells: usize,
         alike: usize,
-        /// The row of the first that looks different, counted from 0.
-        other: Option<usize>,
+        /// The first that looks different.
+        other: Option<OtherCell>,
     },
     /// The cells of a column of integers are days as yyyyMMdd; `cells` of them.
     Days {

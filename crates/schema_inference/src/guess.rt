@@ -1,21 +1,13 @@
-//! What the files of a folder look like: a guess, which [`draft_of`](crate::draft_of) checks. Which files have a schema, and why the others have none, is no guess.
-ghost use Rattle.std.specs.Prelude.{◌≡◌, [], IfOk};
-ghost use Rattle.csv_index.specs.Index.{FitsFile};
-ghost use Rattle.schema_inference.specs.Sorted.{AreSorted, IsNamed, name_cause as name_cause_of, names_of};
-ghost use Rattle.schema_inference.specs.Steps.{IsSortedBytes, IsSortedFile, IsSortedTable};
+//! What the files of a folder look like: a guess, which is to be checked.
+ghost use Rattle.std.specs.Prelude.{◌≡◌, IfOk};
+ghost use Rattle.schema_inference.specs.Looks.{IsNamed};
 
-use crate::column::make_columns;
-use crate::fault::{LeftOut, LeftOutCause, Warning};
-use crate::file::FileTable;
-use crate::key::is_key;
-use crate::looks::read_looks;
-use crate::rows::read_columns;
+use crate::fault::{LeftOut, Warning};
+use crate::sight::TableGuess;
 use crate::warnings::{Warnings, column_warnings, day_warnings, header_warnings};
-use csv_index::{Index, TextFault};
-use csvw_meta::{Limits, Schema, is_table_url, table_name};
-use simdutf8::compat::from_utf8;
+use cell_types::Datatype;
+use csvw_meta::{Limits, Schema, table_name};
 use std::alloc::{AllocError, Global};
-use table_store::NamedFile;
 use type_inference::Candidates;
 
 /// What files look like.
@@ -37,68 +29,74 @@ pub struct Aims {
     pub keys: bool,
 }
 
-/// What a file is sorted as.
-#[derive(Drop)]
-enum Sorted {
-    /// A table, by its schema.
-    Drafted(Schema),
-    /// A file that has no schema.
-    Left(LeftOutCause),
-}
-
 /// Who looks at files, one after another.
 #[derive(Drop)]
-struct Guesser {
-    alloc: Global,
-    aims: Aims,
-    candidates: Candidates,
+pub struct Guesser {
+    pub alloc: Global,
+    pub(crate) aims: Aims,
+    pub(crate) candidates: Candidates,
     warnings: Warnings,
 }
 
-/// Returns why a file with a name is left out after other files, if it is for its name.
-fn name_cause(earlier: &[NamedFile], name: &str) -> Option<LeftOutCause>
-    ensures { result ≡ name_cause_of (names_of earlier.now) name.now }
-{
-    if !is_table_url(name) {
-        return Some(LeftOutCause::NotUrl);
-    }
-    for other in earlier {
-        if other.name.as_str() == name {
-            return Some(LeftOutCause::SameName);
-        }
-    }
-    None
-}
-
 impl Guesser {
-    /// Returns the schema of a table, and adds what there is to look at in it.
-    fn read_table(&mut self, url: &str, file: &FileTable<'_>) -> Result<Schema, AllocError>
-        requires { FitsFile file.now.index.now file.now.text.now }
+    /// Returns who has looked at no file.
+    pub fn new(alloc: Global, aims: Aims) -> Result<Guesser, AllocError>
+        ensures { IfOk result (λ guesser. guesser.aims ≡ aims) }
+    {
+        let candidates = Candidates::new(alloc)?;
+        Ok(Guesser {
+            alloc,
+            aims,
+            candidates,
+            warnings: Warnings {
+                alloc,
+                list: Vec::new(alloc),
+                is_short: false,
+            },
+        })
+    }
+
+    /// Adds what there is to look at in a table, the file of a number.
+    fn warn(&mut self, file: usize, looked: &TableGuess)
+        ensures { self.new.aims ≡ self.old.aims }
+    {
+        let known = looked.seen.cells.known.as_slice();
+        let columns = looked.columns.as_slice();
+        let warnings = &mut self.warnings;
+        column_warnings(
+            warnings,
+            file,
+            known,
+            looked.sights.columns.as_slice(),
+            columns,
+        );
+        day_warnings(warnings, file, &looked.days);
+        header_warnings(
+            warnings,
+            file,
+            &looked.seen.first,
+            &looked.seen.lines,
+            columns,
+        );
+    }
+
+    /// Returns the schema of a table with that url, the file of a number, and adds what there is to look at in it. If its first column may be the key, it is.
+    pub fn schema_of(
+        &mut self,
+        number: usize,
+        url: &str,
+        looked: TableGuess,
+    ) -> Result<Schema, AllocError>
         ensures named { IfOk result (IsNamed url.now) }
         ensures aims { self.new.aims ≡ self.old.aims }
     {
         let alloc = self.alloc;
-        let known = read_columns(alloc, &self.candidates, file)?;
-        let looks = read_looks(alloc, known.as_slice(), file)?;
-        let columns = make_columns(alloc, known.as_slice(), file)?;
-        column_warnings(
-            &mut self.warnings,
-            file.number,
-            known.as_slice(),
-            looks.as_slice(),
-            columns.as_slice(),
-        );
-        day_warnings(
-            &mut self.warnings,
-            file,
-            known.as_slice(),
-            columns.as_slice(),
-        )?;
-        header_warnings(&mut self.warnings, file, columns.as_slice());
+        self.warn(number, &looked);
         let mut key = Vec::new(alloc);
         if self.aims.keys
-            && let Some(column) = columns.first()
-            && is_key(alloc, column, file)?
+            && looked.seen.may_be_key
+            && let Some(column) = looked.columns.first()
+            && matches!(column.datatype, Datatype::Integer | Datatype::Text)
         {
             key.push(0)?;
         }
@@ -107,106 +105,23 @@ impl Guesser {
         Ok(Schema {
             url,
             name,
-            columns,
+            columns: looked.columns,
             key,
         })
     }
 
-    /// Sorts a table: it has a schema if there are not too many columns.
-    fn sort_table(&mut self, url: &str, file: &FileTable<'_>) -> Result<Sorted, AllocError>
-        requires { FitsFile file.now.index.now file.now.text.now }
-        ensures sorted { IfOk result
-            (IsSortedTable self.old.aims.limits file.now.index.now.width url.now) }
-        ensures aims { self.new.aims ≡ self.old.aims }
+    /// Returns what the files look like that have these schemas, or are left out.
+    pub fn end(self, schemas: Vec<Schema>, left_out: Vec<LeftOut>) -> Result<Guess, AllocError>
+        ensures schemas { IfOk result (λ guess. guess.schemas.items ≡ schemas.items) }
+        ensures left_out { IfOk result (λ guess. guess.left_out.items ≡ left_out.items) }
     {
-        let columns = file.index.width();
-        if columns > self.aims.limits.columns as usize {
-            return Ok(Sorted::Left(LeftOutCause::ManyColumns { columns }));
+        if self.warnings.is_short {
+            return Err(AllocError);
         }
-        match self.read_table(url, file) {
-            Ok(schema) => Ok(Sorted::Drafted(schema)),
-            Err(_) => Err(AllocError),
-        }
+        Ok(Guess {
+            schemas,
+            left_out,
+            warnings: self.warnings.list,
+        })
     }
-
-    /// Sorts a file that has a name which can be served, by its bytes.
-    fn sort_bytes(&mut self, number: usize, file: &NamedFile) -> Result<Sorted, AllocError>
-        ensures sorted { IfOk result (IsSortedBytes self.old.aims.limits file.now) }
-        ensures aims { self.new.aims ≡ self.old.aims }
-    {
-        let bytes = file.bytes.as_slice();
-        if bytes.len() > self.aims.limits.file as usize {
-            return Ok(Sorted::Left(LeftOutCause::TooLarge));
-        }
-        match Index::build(self.alloc, bytes) {
-            Ok(index) => {
-                // what has an index is a text
-                let text = from_utf8(bytes).unwrap_or("");
-                let index = &index;
-                let table = FileTable {
-                    number,
-                    text,
-                    index,
-                };
-                self.sort_table(file.name.as_str(), &table)
-            }
-            Err(TextFault::NoMemory) => Err(AllocError),
-            Err(fault) => Ok(Sorted::Left(LeftOutCause::NoTable { fault })),
-        }
-    }
-
-    /// Sorts a file after others: it has a schema, or it is left out.
-    fn sort_file(&mut self, earlier: &[NamedFile], file: &NamedFile) -> Result<Sorted, AllocError>
-        ensures sorted { IfOk result
-            (IsSortedFile self.old.aims.limits (names_of earlier.now) file.now) }
-        ensures aims { self.new.aims ≡ self.old.aims }
-    {
-        match name_cause(earlier, file.name.as_str()) {
-            Some(cause) => Ok(Sorted::Left(cause)),
-            None => self.sort_bytes(earlier.len(), file),
-        }
-    }
-}
-
-/// Returns what files look like: the schemas of those that are tables, why the others have none, and what their publisher should look at.
-pub fn guess_of(alloc: Global, aims: Aims, files: &[NamedFile]) -> Result<Guess, AllocError>
-    ensures { IfOk result (λ guess.
-        AreSorted aims.limits [] files.now guess.schemas.items guess.left_out.items) }
-{
-    let candidates = Candidates::new(alloc)?;
-    let mut guesser = Guesser {
-        alloc,
-        aims,
-        candidates,
-        warnings: Warnings {
-            alloc,
-            list: Vec::new(alloc),
-            is_short: false,
-        },
-    };
-    let mut schemas = Vec::new(alloc);
-    let mut left_out = Vec::new(alloc);
-    for (number, file) in files.iter().enumerate() {
-        match guesser.sort_file(&files[..number], file)? {
-            Sorted::Drafted(schema) => {
-                if schemas.push(schema).is_err() {
-                    return Err(AllocError);
-                }
-            }
-            Sorted::Left(cause) => {
-                let file = number;
-                if left_out.push(LeftOut { file, cause }).is_err() {
-                    return Err(AllocError);
-                }
-            }
-        }
-    }
-    if guesser.warnings.is_short {
-        return Err(AllocError);
-    }
-    Ok(Guess {
-        schemas,
-        left_out,
-        warnings: guesser.warnings.list,
-    })
 }

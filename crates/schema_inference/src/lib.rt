@@ -1,28 +1,25 @@
-//! A draft of the metadata of CSV files (Metadata Vocabulary for Tabular Data). [`guess_of`] returns schemas: for each column the name that its header cell
-//! speaks for, the first datatype under which all its cells have values, and the texts that stand for null; for each table a key, if its first column
-//! may be one. Which files have a schema, and why the others have none, is in its contract; what is guessed of a table is in none. [`draft_of`] returns the text of schemas, indented by two, only after a folder of the files with that
-//! very text was loaded.
+//! A draft of the metadata of CSV files (Metadata Vocabulary for Tabular Data). A file is given in pieces ([`FileGuess`]), at most twice; of a table a [`Guesser`] returns a
+//! schema: for each column the name that its header cell speaks for, the first datatype under which all its cells have values, and the texts that stand for null; and a key, if its
+//! first column may be one. Why a file has no schema is in a contract; what is guessed of a table is in none. [`draft_text`] returns the text of schemas, indented by two.
 #![tactic(auto)]
 
 mod column;
-mod column_text;
+mod days;
 mod draft;
 mod fault;
-mod file;
+mod file_guess;
 mod guess;
 mod key;
-mod laws;
+mod lines;
 mod looks;
-mod members;
 mod names;
 mod rows;
-mod table_text;
-mod text;
+mod sight;
 mod warnings;
 
-pub use draft::{accepted_text, draft_of};
-pub use fault::{DraftFault, LeftOut, LeftOutCause, Warning};
-pub use guess::{Aims, Guess, guess_of};
-pub use laws::worked_names;
+pub use draft::draft_text;
+pub use fault::{DraftFault, LeftOut, LeftOutCause, OtherCell, Warning};
+pub use file_guess::FileGuess;
+pub use guess::{Aims, Guess, Guesser};
 pub use names::next_name;
-pub use text::{column_json, table_json};
+pub use sight::TableGuess;

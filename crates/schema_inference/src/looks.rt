@@ -1,7 +1,6 @@
 //! What the cells of columns of texts look like.
-ghost use Rattle.csv_index.specs.Index.{FitsFile};
-
-use crate::file::FileTable;
+use crate::fault::OtherCell;
+use csv_index::{IndexedText, Raw};
 use std::alloc::{AllocError, Global};
 use type_inference::{Inference, LOOK_COUNT, Look, NULL_WORDS, look_of, without_white};
 
@@ -9,11 +8,11 @@ use type_inference::{Inference, LOOK_COUNT, Look, NULL_WORDS, look_of, without_w
 const ALIKE: usize = 20;
 
 /// The cells of a column that look alike.
-#[derive(Clone, Copy)]
+#[derive(Drop)]
 struct Group {
     cells: usize,
-    /// The row of the first, counted from 0.
-    first: usize,
+    /// The first.
+    first: OtherCell,
     is_loose: bool,
 }
 
@@ -32,14 +31,14 @@ pub(crate) struct Looks {
 
 /// What most cells of a column look like.
 #[derive(Clone, Copy)]
-pub(crate) struct Likeness {
+pub(crate) struct Likeness<'a> {
     pub(crate) look: usize,
     pub(crate) is_loose: bool,
     /// How many cells there are, and how many look so.
     pub(crate) cells: usize,
     pub(crate) alike: usize,
-    /// The row of the first that looks different.
-    pub(crate) other: Option<usize>,
+    /// The first that looks different.
+    pub(crate) other: Option<&'a OtherCell>,
     /// All are numbers, and one has more than six decimal places.
     pub(crate) is_fine: bool,
 }
@@ -47,12 +46,17 @@ pub(crate) struct Likeness {
 impl Looks {
     /// Returns the looks of no cell.
     fn new(alloc: Global, is_open: bool) -> Result<Looks, AllocError> {
-        let none = Group {
-            cells: 0,
-            first: 0,
-            is_loose: false,
-        };
-        let groups = Vec::from_elem(alloc, none, LOOK_COUNT + 1)?;
+        let mut groups = Vec::new(alloc);
+        for _look in 0..=LOOK_COUNT {
+            groups.push(Group {
+                cells: 0,
+                first: OtherCell {
+                    line: 0,
+                    text: String::new(alloc),
+                },
+                is_loose: false,
+            })?;
+        }
         Ok(Looks {
             is_open,
             cells: 0,
@@ -70,11 +74,17 @@ impl Looks {
         }
     }
 
-    /// Reads the cell of a row. If more cells look different than may, no more is read.
-    fn read(&mut self, cell: &str, row: usize, most_others: usize) {
+    /// Reads the cell of a line. If more cells look different than may, no more is read.
+    fn read(
+        &mut self,
+        alloc: Global,
+        cell: &str,
+        line: usize,
+        most_others: usize,
+    ) -> Result<(), AllocError> {
         let text = without_white(cell);
         if text.is_empty() || NULL_WORDS.contains(&text) {
-            return;
+            return Ok(());
         }
         let look = look_of(text).unwrap_or(Look {
             look: LOOK_COUNT,
@@ -85,7 +95,8 @@ impl Looks {
         self.cells = self.cells.saturating_add(1);
         if let Some(group) = self.groups.get_mut(look.look) {
             if group.cells == 0 {
-                group.first = row;
+                let text = String::from_str(alloc, cell)?;
+                group.first = OtherCell { line, text };
             }
             group.cells = group.cells.saturating_add(1);
             group.is_loose |= look.is_loose;
@@ -94,21 +105,26 @@ impl Looks {
             self.most = look.look;
         }
         self.is_open = self.cells.saturating_sub(self.count(self.most)) <= most_others;
+        Ok(())
     }
 
-    /// Returns the row of the first cell that does not have the look of the most.
-    fn first_other(&self) -> Option<usize> {
-        let mut first = None;
+    /// Returns the first cell that does not have the look of the most.
+    fn first_other(&self) -> Option<&OtherCell> {
+        let mut first: Option<&OtherCell> = None;
         for (look, group) in self.groups.iter().enumerate() {
-            if look != self.most && group.cells > 0 {
-                first = Some(group.first.min(first.unwrap_or(group.first)));
+            if look == self.most || group.cells == 0 {
+                continue;
             }
+            first = match first {
+                Some(cell) if cell.line < group.first.line => Some(cell),
+                _ => Some(&group.first),
+            };
         }
         first
     }
 
     /// Returns what the cells look like, if all or nearly all look alike.
-    pub(crate) fn likeness(&self) -> Option<Likeness> {
+    pub(crate) fn likeness(&self) -> Option<Likeness<'_>> {
         let group = self.groups.get(self.most)?;
         let others = self.cells.saturating_sub(group.cells);
         if !self.is_open || group.cells == 0 || others.saturating_mul(ALIKE) > self.cells {
@@ -125,38 +141,69 @@ impl Looks {
     }
 }
 
-/// Returns what the cells of the columns of a file look like, of those that can only be columns of texts. It ends if no column is left whose cells may look alike.
-pub(crate) fn read_looks(
-    alloc: Global,
-    known: &[Inference],
-    file: &FileTable<'_>,
-) -> Result<Vec<Looks>, AllocError>
-    requires { FitsFile file.now.index.now file.now.text.now }
-{
-    let mut columns = Vec::new(alloc);
-    for seen in known {
-        let looks = Looks::new(alloc, seen.left.is_empty() && !seen.form.padded)?;
-        columns.push(looks)?;
+/// What the cells of columns look like once some of their rows are read, of those that can only be columns of texts.
+#[derive(Drop)]
+pub(crate) struct Sights {
+    pub(crate) columns: Vec<Looks>,
+    /// The line in which the next row begins.
+    line: usize,
+    most_others: usize,
+}
+
+/// Returns how many line breaks are in a field.
+fn breaks_in(field: Raw<'_>) -> usize {
+    let bytes = field.bytes.as_bytes();
+    bytes.iter().filter(|byte| **byte == b'\n').count()
+}
+
+impl Sights {
+    /// Returns what columns of `rows` rows after a header look like, of whose cells this is known, before any is looked at.
+    pub(crate) fn new(
+        alloc: Global,
+        known: &[Inference],
+        header: &IndexedText,
+        rows: usize,
+    ) -> Result<Sights, AllocError> {
+        let mut columns = Vec::new(alloc);
+        for seen in known {
+            let looks = Looks::new(alloc, seen.left.is_empty() && !seen.form.padded)?;
+            columns.push(looks)?;
+        }
+        let mut line: usize = 2;
+        for col in 0..header.width() {
+            line = line.saturating_add(breaks_in(header.header(col)));
+        }
+        Ok(Sights {
+            columns,
+            line,
+            most_others: rows / ALIKE,
+        })
     }
-    let most_others = file.index.rows() / ALIKE;
-    let mut fields = file.index.fields(file.text, 0);
-    for row in 0..file.index.rows() {
-        let mut is_open = false;
-        for looks in &mut columns {
-            if !looks.is_open {
-                fields.pass();
-                continue;
+
+    /// Returns true if a column is left whose cells may look alike.
+    pub(crate) fn is_open(&self) -> bool {
+        self.columns.iter().any(|looks| looks.is_open)
+    }
+
+    /// Looks at the cells of more rows. It ends if no column is left whose cells may look alike.
+    pub(crate) fn read(&mut self, alloc: Global, file: &IndexedText) -> Result<(), AllocError> {
+        let mut fields = file.fields(0);
+        for _row in 0..file.rows() {
+            if !self.is_open() {
+                return Ok(());
             }
-            let Some(raw) = fields.next_field() else {
-                return Ok(columns);
-            };
-            let text = raw.text(alloc)?;
-            looks.read(text.as_str(), row, most_others);
-            is_open |= looks.is_open;
+            for looks in &mut self.columns {
+                let Some(raw) = fields.next_field() else {
+                    return Ok(());
+                };
+                if looks.is_open {
+                    let text = raw.text(alloc)?;
+                    looks.read(alloc, text.as_str(), self.line, self.most_others)?;
+                }
+                self.line = self.line.saturating_add(breaks_in(raw));
+            }
+            self.line = self.line.saturating_add(1);
         }
-        if !is_open {
-            return Ok(columns);
-        }
+        Ok(())
     }
-    Ok(columns)
 }

@@ -1,8 +1,5 @@
-//! What is known of the columns of a file once its rows are read, one after another.
-ghost use Rattle.csv_index.specs.Index.{FitsFile};
-
-use crate::file::FileTable;
-use csv_index::Raw;
+//! What is known of the columns of a file once some of its rows are read, one after another.
+use csv_index::{IndexedText, Raw};
 use std::alloc::{AllocError, Global};
 use type_inference::{Candidates, Inference};
 
@@ -34,31 +31,52 @@ fn read_field(
     seen.read(alloc, candidates, text.as_str()).and(Ok(true))
 }
 
-/// Returns what is known of the columns of a file once its cells are read, in one pass. It ends if no column is left that may be another than one of texts.
-pub(crate) fn read_columns(
-    alloc: Global,
-    candidates: &Candidates,
-    file: &FileTable<'_>,
-) -> Result<Vec<Inference>, AllocError>
-    requires { FitsFile file.now.index.now file.now.text.now }
-{
-    let mut columns = Vec::new(alloc);
-    for _made in 0..file.index.width() {
-        let seen = Inference::new(alloc)?;
-        columns.push(seen)?;
-    }
-    let mut fields = file.index.fields(file.text, 0);
-    for _row in 0..file.index.rows() {
-        let mut is_open = false;
-        for seen in &mut columns {
-            let Some(raw) = fields.next_field() else {
-                return Ok(columns);
-            };
-            is_open |= read_field(alloc, candidates, seen, raw)?;
+/// What is known of columns once some of their cells are read.
+#[derive(Drop)]
+pub(crate) struct Cells {
+    pub(crate) known: Vec<Inference>,
+    /// A column is left that may be another than one of texts.
+    is_open: bool,
+}
+
+impl Cells {
+    /// Returns what is known of that many columns before their cells are read.
+    pub(crate) fn new(alloc: Global, width: usize) -> Result<Cells, AllocError> {
+        let mut known = Vec::new(alloc);
+        for _made in 0..width {
+            let seen = Inference::new(alloc)?;
+            known.push(seen)?;
         }
-        if !is_open {
-            return Ok(columns);
-        }
+        Ok(Cells {
+            known,
+            is_open: true,
+        })
     }
-    Ok(columns)
+
+    /// Reads the cells of more rows. It ends if no column is left that may be another than one of texts.
+    pub(crate) fn read(
+        &mut self,
+        alloc: Global,
+        candidates: &Candidates,
+        file: &IndexedText,
+    ) -> Result<(), AllocError> {
+        if !self.is_open {
+            return Ok(());
+        }
+        let mut fields = file.fields(0);
+        for _row in 0..file.rows() {
+            let mut is_open = false;
+            for seen in &mut self.known {
+                let Some(raw) = fields.next_field() else {
+                    return Ok(());
+                };
+                is_open |= read_field(alloc, candidates, seen, raw)?;
+            }
+            if !is_open {
+                self.is_open = false;
+                return Ok(());
+            }
+        }
+        Ok(())
+    }
 }

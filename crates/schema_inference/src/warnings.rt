@@ -1,15 +1,14 @@
 //! What the publisher of a table should look at.
-ghost use Rattle.std.specs.Prelude.{◌≡◌, ◌<◌, ◌++◌, ◌∷◌, ◌⊎◌, [], true};
-ghost use Rattle.csv_index.specs.Index.{FitsFile};
+ghost use Rattle.std.specs.Prelude.{◌≡◌, ◌++◌, ◌∷◌, ◌⊎◌, [], true};
 
-use crate::fault::Warning;
-use crate::file::FileTable;
+use crate::days::Days;
+use crate::fault::{OtherCell, Warning};
+use crate::lines::LinesSeen;
 use crate::looks::Looks;
-use cell_types::{CellFault, Column, Datatype, DateForm, Value};
+use cell_types::{CellFault, Column, Datatype, Value};
 use csv_fields::cell_value;
-use csv_index::Raw;
-use csv_shapes::SEPARATORS;
-use std::alloc::{AllocError, Global};
+use csv_index::{IndexedText, Raw};
+use std::alloc::Global;
 use type_inference::{Inference, NULL_WORDS, are_digits, look_name};
 
 /// What there is to look at so far. If memory runs out that is kept in it, so that a warning has no failure of its own.
@@ -31,34 +30,17 @@ impl Warnings {
             self.is_short = true;
         }
     }
-}
 
-/// Returns true if a byte is in the header cell and in each cell of the first column.
-fn is_in_each(file: &FileTable<'_>, byte: u8) -> bool
-    requires bytes { FitsFile file.now.index.now file.now.text.now }
-    requires width { 0 < file.now.index.now.width }
-{
-    if !file
-        .index
-        .header(file.text, 0)
-        .bytes
-        .as_bytes()
-        .contains(&byte)
-    {
-        return false;
+    /// Returns a copy of a cell, or memory runs out.
+    fn copied(&mut self, cell: Option<&OtherCell>) -> Option<OtherCell> {
+        let OtherCell { line, text } = cell?;
+        let text: Result<_, _> = text.clone();
+        self.is_short |= text.is_err();
+        Some(OtherCell {
+            line: *line,
+            text: text.ok()?,
+        })
     }
-    for row in 0..file.index.rows() {
-        if !file
-            .index
-            .cell(file.text, row, 0)
-            .bytes
-            .as_bytes()
-            .contains(&byte)
-        {
-            return false;
-        }
-    }
-    true
 }
 
 /// Returns true for a column of texts.
@@ -98,13 +80,14 @@ fn text_warnings(
         if found.is_fine {
             warnings.put(Warning::TooFine { file, col });
         } else if found.alike > 1 {
+            let other = warnings.copied(found.other);
             warnings.put(Warning::Alike {
                 file,
                 col,
                 form: look_name(found.look, found.is_loose),
                 cells: found.cells,
                 alike: found.alike,
-                other: found.other,
+                other,
             });
         }
     }
@@ -154,65 +137,24 @@ pub(crate) fn column_warnings(
     null_warnings(warnings, file, known, columns);
 }
 
-/// Returns how many cells of a column are days, by a column of dates, if each of them is a day or null; else 0.
-fn count_days(warnings: &mut Warnings, file: &FileTable<'_>, col: usize, dates: &Column) -> usize
-    requires bytes { FitsFile file.now.index.now file.now.text.now }
-    requires col { col < file.now.index.now.width }
-{
-    let mut days: usize = 0;
-    for row in 0..file.index.rows() {
-        match cell_value(warnings.alloc, dates, file.index.cell(file.text, row, col)) {
-            Ok(Value::Null) => {}
-            Ok(_) => days = days.saturating_add(1),
-            Err(fault) => {
-                warnings.is_short |= matches!(fault, CellFault::NoMemory);
-                return 0;
-            }
+/// Adds the columns of integers that may be days.
+pub(crate) fn day_warnings(warnings: &mut Warnings, file: usize, days: &Days) {
+    for count in &days.counts {
+        if count.is_open && count.days > 1 {
+            warnings.put(Warning::Days {
+                file,
+                col: count.col,
+                cells: count.days,
+            });
         }
     }
-    days
-}
-
-/// Adds the columns of integers that may be days without a sign between year, month and day.
-pub(crate) fn day_warnings(
-    warnings: &mut Warnings,
-    file: &FileTable<'_>,
-    known: &[Inference],
-    columns: &[Column],
-) -> Result<(), AllocError>
-    requires { FitsFile file.now.index.now file.now.text.now }
-{
-    let alloc = warnings.alloc;
-    for col in 0..file.index.width() {
-        if let Some(column) = columns.get(col)
-            && let Some(seen) = known.get(col)
-            && matches!(column.datatype, Datatype::Integer)
-        {
-            let dates = Column {
-                name: String::new(alloc),
-                titles: Vec::new(alloc),
-                datatype: Datatype::Date(DateForm::Compact),
-                nulls: seen.nulls(alloc, &column.datatype)?,
-                default: String::new(alloc),
-                required: false,
-            };
-            let cells = count_days(warnings, file, col, &dates);
-            if cells > 1 {
-                let file = file.number;
-                warnings.put(Warning::Days { file, col, cells });
-            }
-        }
-    }
-    Ok(())
 }
 
 /// Returns true if the header of a file may be data: each header cell of a column that is none of texts is a value of it, and one is no year.
-fn has_data_header(warnings: &mut Warnings, file: &FileTable<'_>, columns: &[Column]) -> bool
-    requires { FitsFile file.now.index.now file.now.text.now }
-{
+fn has_data_header(warnings: &mut Warnings, first: &IndexedText, columns: &[Column]) -> bool {
     let mut has_data = false;
-    for col in 0..file.index.width() {
-        let cell = file.index.header(file.text, col);
+    for col in 0..first.width() {
+        let cell = first.header(col);
         if let Some(column) = columns.get(col)
             && !is_text(column)
         {
@@ -225,50 +167,30 @@ fn has_data_header(warnings: &mut Warnings, file: &FileTable<'_>, columns: &[Col
     has_data
 }
 
-/// Returns how many rows at the end of a file have only empty cells.
-fn empty_rows(file: &FileTable<'_>) -> usize
-    requires { FitsFile file.now.index.now file.now.text.now }
-{
-    let rows = file.index.rows();
-    for back in 1..=rows {
-        for col in 0..file.index.width() {
-            if !file
-                .index
-                .cell(file.text, rows - back, col)
-                .bytes
-                .is_empty()
-            {
-                return back - 1;
-            }
+/// Adds what there is to look at in the header and the lines of a file, whose first lines are given: header cells that are empty or data, rows of empty cells at the
+/// end, and of one column the bytes that may separate its fields.
+pub(crate) fn header_warnings(
+    warnings: &mut Warnings,
+    file: usize,
+    first: &IndexedText,
+    lines: &LinesSeen,
+    columns: &[Column],
+) {
+    for col in 0..first.width() {
+        if first.header(col).bytes.is_empty() {
+            warnings.put(Warning::EmptyHeader { file, col });
         }
     }
-    rows
-}
-
-/// Adds what there is to look at in the header and the last rows of a file: header cells that are empty or data, rows of empty cells, and of one column the bytes
-/// that may separate its fields.
-pub(crate) fn header_warnings(warnings: &mut Warnings, file: &FileTable<'_>, columns: &[Column])
-    requires { FitsFile file.now.index.now file.now.text.now }
-{
-    let number = file.number;
-    for col in 0..file.index.width() {
-        if file.index.header(file.text, col).bytes.is_empty() {
-            warnings.put(Warning::EmptyHeader { file: number, col });
-        }
+    if has_data_header(warnings, first, columns) {
+        warnings.put(Warning::HeaderIsData { file });
     }
-    if has_data_header(warnings, file, columns) {
-        warnings.put(Warning::HeaderIsData { file: number });
+    if first.width() != 1 && lines.empty > 0 {
+        warnings.put(Warning::EmptyRows {
+            file,
+            rows: lines.empty,
+        });
     }
-    if file.index.width() != 1 {
-        let rows = empty_rows(file);
-        if rows > 0 {
-            warnings.put(Warning::EmptyRows { file: number, rows });
-        }
-        return;
-    }
-    for byte in SEPARATORS {
-        if is_in_each(file, byte) {
-            warnings.put(Warning::OtherSeparator { file: number, byte });
-        }
+    for byte in lines.separators.as_slice() {
+        warnings.put(Warning::OtherSeparator { file, byte: *byte });
     }
 }

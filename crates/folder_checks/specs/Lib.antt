@@ -1,0 +1,4 @@
+pub mod Windows
+pub mod Cells
+pub mod Checks
+pub mod FolderChecks
