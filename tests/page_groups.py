@@ -205,7 +205,9 @@ def runs(browser, program, text, folder):
 def has_program(program):
     if program == "Python":
         return subprocess.run(["/usr/bin/python3", "-c", "import pandas"], capture_output=True).returncode == 0
-    return shutil.which({"curl": "curl", "JavaScript": "node", "R": "Rscript"}[program]) is not None
+    if program == "R":
+        return shutil.which("Rscript") is not None and subprocess.run(["Rscript", "-e", "cat(1)"], capture_output=True).returncode == 0
+    return shutil.which({"curl": "curl", "JavaScript": "node"}[program]) is not None
 
 
 def tries_use(browser, checks, table):
