@@ -1,12 +1,14 @@
 -- Sizes of rows, value by value and column by column.
-use Rattle.std.proofs.Common.{◌≡◌, ℕ, ◌+◌, ◌^◌, ◌<◌, ◌≤◌, Bool, List, [], ◌∷◌, ◌++◌, Some, drop, get_or, length, map, replicate, take, ap, sym, ◌∙◌, arith, length-append}
+use Rattle.std.proofs.Common.{◌≡◌, ℕ, ◌+◌, ◌^◌, ◌<◌, ◌≤◌, Bool, true, false, not, List, [], ◌∷◌, ◌++◌, Some, drop, get_or, length, map, refl, replicate, take, ap, sym, ◌∙◌, arith, length-append}
 use Rattle.std.specs.Prelude.{slice_get}
-use Rattle.std.specs.List.{All, flat_map}
-use Rattle.std.proofs.lemmas.List.{get_or-drop, get_or-map, get_or-replicate, get_or-take, length-drop, length-map, length-replicate, length-take, take_all, take_more}
+use Rattle.std.specs.List.{All, flat_map, list_any}
+use Rattle.std.proofs.lemmas.List.{get_or-drop, get_or-map, get_or-replicate, get_or-take, get_or_default, length-drop, length-map, length-replicate, length-take, take_all, take_more}
+use Rattle.std.proofs.lemmas.List.Folds.{Any-from_list_any, list_any_at}
 use Rattle.std.proofs.lemmas.Option.{get_or_from_slice_get, slice_get-get_or, same_Some}
 use Rattle.cell_types.specs.Value.{CellValue, null, text as text_cell}
-use Rattle.reply_values.specs.Printed.{printed_text, printed_value}
+use Rattle.reply_values.specs.Printed.{is_plain_text, needs_more, printed_text, printed_value}
 use Rattle.reply_values.specs.Size.{told}
+use Rattle.value_rows.specs.Packed.{HaveText, IsTextWithin}
 
 -- sizes that begin with what a row takes without its values
 pub filled : (sizes : List ℕ) (count frame k : ℕ) → sizes ≡ replicate count frame → k < length sizes → frame < 2 ^ 64 → get_or sizes k 0 ≡ told (frame + 0)
@@ -72,7 +74,25 @@ few_wide rows first count width col within less wide row inside =
 
 -- ---- texts each byte of which stands for itself
 
--- the size of a cell whose text is as long as that
-pub plain_counted : (json : Bool) (cell : CellValue) (t : List ℕ) (old len size new : ℕ) → cell ≡ text_cell t → len ≡ length t → size ≡ told (length (printed_text json t)) → new ≡ told (old + size)
-    → new ≡ told (old + length (printed_value json cell))
-plain_counted json cell t old len size new is long size_is new_is = omega (arith, size_is, new_is, ap (λ v. length (printed_value json v)) is)
+-- a text that such bytes have
+pub part_plain : (json : Bool) (bytes t : List ℕ) → HaveText bytes t → is_plain_text json bytes ≡ true → is_plain_text json t ≡ true
+part_plain json bytes t have plain = by (list_any (needs_more json) t) refl
+  where
+    by : (b : Bool) → list_any (needs_more json) t ≡ b → not b ≡ true
+    by false e = refl
+    by true e =
+        let found = Any-from_list_any (needs_more json) t e in
+        let there : needs_more json (get_or bytes (have.place + found.0) 0) ≡ true =
+        ap (needs_more json) (have.reads found.0 found.2 ∙ get_or_default t found.0 0 found.1 found.2 ∙ found.3) ∙ found.4 in
+        let no : not true ≡ true = ap not (sym (list_any_at (needs_more json) bytes (have.place + found.0) 0 (omega (arith, have.fits, found.2)) there)) ∙ plain in
+        cc
+
+-- the size of a value that is such a text
+pub value_counted : (json : Bool) (value : CellValue) (bytes : List ℕ) (old len new : ℕ) → IsTextWithin value len bytes → is_plain_text json bytes ≡ true
+    → ((t : List ℕ) → len ≡ length t → is_plain_text json t ≡ true → new ≡ told (old + length (printed_text json t))) → new ≡ told (old + length (printed_value json value))
+value_counted json value bytes old len new within plain counted =
+    counted within.t within.long (part_plain json bytes within.t within.have plain) ∙ ap (λ v. told (old + length (printed_value json v))) (sym within.is)
+
+-- the size of a cell whose text is that
+pub cell_counted : (json : Bool) (cell : CellValue) (t : List ℕ) (old new : ℕ) → cell ≡ text_cell t → new ≡ told (old + length (printed_text json t)) → new ≡ told (old + length (printed_value json cell))
+cell_counted json cell t old new is new_is = new_is ∙ ap (λ v. told (old + length (printed_value json v))) (sym is)

@@ -1,12 +1,12 @@
 //! How many bytes the values of rows take, in JSON or in CSV. None is written. The cells that rows of one block have in a column are counted one after another.
-ghost use Rattle.std.specs.Prelude.{◌≡◌, ◌+◌, ◌<◌, ◌≤◌, ℕ, [], get_or, length};
+ghost use Rattle.std.specs.Prelude.{◌≡◌, ◌+◌, ◌<◌, ◌≤◌, [], get_or, length};
 ghost use Rattle.std.specs.List.{flat_map};
 ghost use Rattle.cell_types.specs.Value.{null};
-ghost use Rattle.cell_texts.specs.Sizes.{AreRowsCounted};
+ghost use Rattle.cell_texts.specs.Sizes.{AreCellsCountedAt, AreRowsCounted};
 ghost use Rattle.reply_values.specs.Printed.{printed_value};
 ghost use Rattle.reply_values.specs.Size.{told};
 
-use crate::part_sizes::add_cells;
+use crate::part_sizes::{add_cells, add_values};
 use crate::sizes::{cell_room, cell_size};
 use row_columns::Columns;
 
@@ -31,16 +31,30 @@ pub fn row_room<const JSON: bool>(columns: &Columns, row: usize, start: usize) -
 fn add_far_cells<const JSON: bool>(columns: &Columns, first: usize, col: usize, sizes: &mut [usize])
     requires rows { first + length sizes.old ≤ length columns.now.rows }
     requires col { col < length columns.now.kinds }
-    ensures long { length sizes.new ≡ length sizes.old }
-    ensures each { (i : ℕ) → i < length sizes.old → get_or sizes.new i 0
-        ≡ told (get_or sizes.old i 0 + length
-        (printed_value JSON (get_or (get_or columns.now.rows (first + i) []) col null))) }
+    ensures { AreCellsCountedAt (printed_value JSON)
+        (λ i. get_or (get_or columns.now.rows (first + i) []) col null) sizes.old sizes.new }
 {
     let _rows = columns.len(); // each row has a number that fits
     for i in 0..sizes.len() {
         let cell = columns.row_ref(first + i).cell(col);
         sizes[i] = sizes[i].saturating_add(cell_size::<JSON>(cell));
     }
+}
+
+/// Adds to each size how many bytes the cell of its row takes in a column, of as many rows from `first` on as there are places, which are values or far from one another.
+fn add_column<const JSON: bool>(columns: &Columns, first: usize, col: usize, sizes: &mut [usize])
+    requires rows { first + length sizes.old ≤ length columns.now.rows }
+    requires col { col < length columns.now.kinds }
+    ensures { AreCellsCountedAt (printed_value JSON)
+        (λ i. get_or (get_or columns.now.rows (first + i) []) col null) sizes.old sizes.new }
+{
+    if !sizes.is_empty() {
+        if let Some((rows, start)) = columns.value_rows(first) {
+            add_values::<JSON>(rows, start, col, sizes);
+            return;
+        }
+    }
+    add_far_cells::<JSON>(columns, first, col, sizes);
 }
 
 /// Writes the size of each of as many rows from `first` on as there are places: `frame` bytes, and those of its values.
@@ -65,7 +79,7 @@ pub fn put_sizes<const JSON: bool>(
         }
         None => {
             for col in 0..columns.width() {
-                add_far_cells::<JSON>(columns, first, col, sizes);
+                add_column::<JSON>(columns, first, col, sizes);
             }
         }
     }

@@ -4,9 +4,12 @@ ghost use Rattle.reply_values.specs.Printed.{printed_value};
 ghost use Rattle.reply_values.specs.Size.{told};
 ghost use Rattle.row_columns.specs.Cell.{cell_view};
 ghost use Rattle.text_columns.specs.PlainParts.{IsPlainCell};
+ghost use Rattle.value_rows.specs.Packed.{lent_value_view};
 
+use cell_types::Value;
 use reply_values::{number_room, plain_size, text_room, text_size, value_size};
-use row_columns::Cell;
+use row_columns::{Cell, cell_of};
+use value_rows::LentValue;
 
 /// Returns how many bytes a cell takes, in JSON or in CSV.
 #[inline(always)]
@@ -19,6 +22,17 @@ pub fn cell_size<const JSON: bool>(cell: Cell<'_>) -> usize
         Cell::Number(number) => value_size::<JSON>(&number.value()),
         Cell::Text(text) => text_size::<JSON>(text.as_bytes()),
         Cell::Value(value) => value_size::<JSON>(value),
+    }
+}
+
+/// Returns how many bytes a value takes that is lent, in JSON or in CSV. Most are whole numbers, as a count is.
+#[inline(always)]
+pub fn lent_size<const JSON: bool>(value: LentValue<'_>) -> usize
+    ensures { result ≡ told (length (printed_value JSON (lent_value_view value.entry))) }
+{
+    match value {
+        LentValue::Integer(number) => value_size::<JSON>(&Value::Int(number as i128)),
+        other => cell_size::<JSON>(cell_of(other)),
     }
 }
 

@@ -7,3 +7,4 @@ pub mod CodeLemmas
 pub mod PackedLemmas
 pub mod RowLemmas
 pub mod NumberedLaws
+mod ValueLemmas

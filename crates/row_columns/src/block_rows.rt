@@ -3,7 +3,7 @@ ghost use Rattle.std.specs.Prelude.{◌≡◌, ◌+◌, ◌<◌, ◌≤◌, ℕ,
 ghost use Rattle.block_summary.specs.Ranges.{column_of};
 ghost use Rattle.block_summary.specs.declared.block.TheConstants.{BLOCK_ROWS};
 ghost use Rattle.row_columns.specs.Numbers.{numbers_from};
-ghost use Rattle.row_columns.specs.Part.{ArePartOf};
+ghost use Rattle.row_columns.specs.Part.{ArePartOf, AreRowsFrom};
 ghost use Rattle.row_columns.specs.Piece.{piece_row};
 ghost use Rattle.row_columns.specs.Store.{end_of, stored_row};
 
@@ -14,6 +14,7 @@ use block_summary::{BLOCK_ROWS, PackedColumn};
 use column_blocks::BlockCells;
 use std::marker::Model;
 use text_columns::TextColumn;
+use value_rows::ValueRows;
 
 /// Rows that follow on one another in one block, one at least. They are seen as the list of these rows.
 #[derive(Drop)]
@@ -126,6 +127,18 @@ impl Store {
 }
 
 impl Columns {
+    /// Returns rows of values among which a row, counted from 0, and those after it are, and its number among them. They are `None` if the rows are not kept as values, one after another.
+    pub fn value_rows(&self, row: usize) -> Option<(&ValueRows, usize)>
+        requires { row < length self.now.rows }
+        ensures { IfSome result (λ part. AreRowsFrom row self.now part.0.now part.1) }
+    {
+        self.numbers.run()?;
+        let Store::Values(rows) = &self.store else {
+            return None;
+        };
+        Some((rows, self.numbers.at(row) as usize))
+    }
+
     /// Returns `count` rows from one on, counted from 0, or `None` if they are not known to follow on one another in one block.
     pub fn block_rows(&self, row: usize, count: usize) -> Option<BlockRows<'_>>
         requires { row + count ≤ length self.now.rows }

@@ -74,7 +74,7 @@ pub(crate) fn is_plain_in<const JSON: bool>(cells: &BlockCells, row: usize) -> b
 
 /// Returns the cell of a value that is lent.
 #[inline(always)]
-pub(crate) fn cell_of(value: LentValue<'_>) -> Cell<'_>
+pub fn cell_of(value: LentValue<'_>) -> Cell<'_>
     ensures { cell_view result ≡ lent_value_view value.entry }
 {
     match value {

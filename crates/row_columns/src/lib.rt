@@ -11,6 +11,6 @@ mod row_ref;
 mod store;
 
 pub use block_rows::{BlockRows, ColumnPart, PartCells};
-pub use cell::{Cell, number_cell, text_cell};
+pub use cell::{Cell, cell_of, number_cell, text_cell};
 pub use columns::Columns;
 pub use row_ref::RowRef;

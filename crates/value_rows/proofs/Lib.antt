@@ -1,2 +1,3 @@
 mod PackedLemmas
 pub mod RowLaws
+mod TextLemmas

@@ -1,5 +1,5 @@
 -- Values, each in a slot: beside the slots there are the texts, one after another, and the values that are not packed, each with its place in the list.
-use Rattle.std.specs.Prelude.{◌≡◌, ◌+◌, ◌++◌, ℕ, suc, List, [], ◌∷◌, Option, Some, None, IsUtf8, slice_get, slice_range}
+use Rattle.std.specs.Prelude.{◌≡◌, ◌+◌, ◌*◌, ◌<◌, ◌≤◌, ◌++◌, ℕ, suc, List, [], ◌∷◌, Option, Some, None, IsUtf8, length, slice_get, slice_index_or, slice_range}
 use Rattle.std.specs.Str.{IsCharBoundary}
 use Rattle.cell_types.specs.Value.{CellValue, null, integer, decimal, boolean, date, text, value_view}
 use Rattle.value_rows.specs.declared.slots.LentValue.{LentValue}
@@ -32,6 +32,41 @@ slot_view texts others (slots.Boolean truth) = boolean truth
 slot_view texts others (slots.Date day) = date day.year day.month day.day
 slot_view texts others (slots.Text start len) = text (slice_range texts start (start + len))
 slot_view texts others (slots.Other other) = other_view (slice_get others other)
+
+-- a slot is that of a text of that length between two places among all texts
+pub record IsSpanned (slot : Slot) (len low high : ℕ) : Type 0 where
+  pub start : ℕ
+  pub is : slot ≡ slots.Text start len
+  pub after : low ≤ start
+  pub before : start + len ≤ high
+
+-- and so for as many slots from one on as there are lengths, of which each comes some places after the one before; one of them ends where all end
+pub record AreSpanned (all : List Slot) (from step : ℕ) (lengths : List ℕ) (low high : ℕ) : Type 0 where
+  pub order : low ≤ high
+  pub each : (i : ℕ) → i < length lengths → IsSpanned (slice_index_or all (from + i * step) slots.Null) (slice_index_or lengths i 0) low high
+  pub last : ℕ
+  pub within : last < length lengths
+  pub start : ℕ
+  pub len : ℕ
+  pub is : slice_index_or all (from + last * step) slots.Null ≡ slots.Text start len
+  pub end : high ≤ start + len
+
+-- bytes have a text somewhere
+pub record HaveText (bytes t : List ℕ) : Type 0 where
+  pub place : ℕ
+  pub fits : place + length t ≤ length bytes
+  pub reads : (k : ℕ) → k < length t → slice_index_or bytes (place + k) 0 ≡ slice_index_or t k 0
+
+-- a value is a text of that length, which bytes have
+pub record IsTextWithin (value : CellValue) (len : ℕ) (bytes : List ℕ) : Type 0 where
+  pub t : List ℕ
+  pub is : value ≡ text t
+  pub long : len ≡ length t
+  pub have : HaveText bytes t
+
+-- and so for as many values as there are lengths
+abbrev pub AreTextsWithin : (ℕ → CellValue) → List ℕ → List ℕ → Type 0
+AreTextsWithin value lengths bytes = (i : ℕ) → i < length lengths → IsTextWithin (value i) (slice_index_or lengths i 0) bytes
 
 -- what a slot names is there: a whole text, or a value that is that of this place
 abbrev pub IsSlot : List ℕ → List Other → ℕ → Slot → Type 0

@@ -1,10 +1,10 @@
 //! Lists of values, each packed.
-ghost use Rattle.std.specs.Prelude.{◌≡◌, ◌<◌, ◌≤◌, ◌+◌, ◌^◌, ◌++◌, ◌∷◌, [], OnErr, OnOk, drop, length, map, not, slice_index_or, slice_set, take};
+ghost use Rattle.std.specs.Prelude.{◌≡◌, ◌<◌, ◌≤◌, ◌+◌, ◌*◌, ◌^◌, ◌++◌, ◌∷◌, ℕ, [], IfSome, OnErr, OnOk, drop, length, map, not, slice_index_or, slice_set, take};
 ghost use Rattle.cell_types.specs.Rows.{same_values};
 ghost use Rattle.cell_types.specs.Value.{null, value_eq, value_view};
-ghost use Rattle.value_rows.specs.Packed.{lent_value_view};
+ghost use Rattle.value_rows.specs.Packed.{lent_value_view, AreTextsWithin};
 
-use crate::slots::{LentValue, Other, Slot, lent_at, packed_slot, slot_of, value_of};
+use crate::slots::{LentValue, Other, Slot, lent_at, packed_slot, slot_of, text_lengths, value_of};
 use cell_types::{Value, owned};
 use std::alloc::{AllocError, Global};
 use std::marker::Model;
@@ -87,6 +87,21 @@ impl PackedValues {
         ensures { value_view result ≡ slice_index_or self.now place null }
     {
         value_of(self.lent(place))
+    }
+
+    /// Writes how many bytes each text has, of the values from a place on of which each comes `step` places after the one before. Returns bytes that have all these texts, or
+    /// `None` if a value is no packed text, or begins before the one before it ends.
+    #[inline(always)]
+    pub fn text_lengths(&self, from: usize, step: usize, lengths: &mut [usize]) -> Option<&[u8]>
+        requires some { 0 < length lengths.old }
+        requires within { (i : ℕ) → i < length lengths.old → from + i * step < length self.now }
+        ensures long { length lengths.new ≡ length lengths.old }
+        ensures texts { IfSome result (λ bytes. AreTextsWithin
+            (λ i. slice_index_or self.now (from + i * step) null) lengths.new bytes.now) }
+    {
+        self.are_few();
+        let (low, high) = text_lengths(self.slots.as_slice(), from, step, lengths)?;
+        Some(&self.texts.as_bytes()[low..high])
     }
 
     /// Returns true if the values from a place on are these, as many as `len`.

@@ -1,9 +1,9 @@
 //! Rows of values.
-ghost use Rattle.std.specs.Prelude.{◌≡◌, ◌<◌, ◌≤◌, ◌*◌, ◌++◌, ◌∷◌, [], IfOk, OnOk, length, map, slice_index_or};
+ghost use Rattle.std.specs.Prelude.{◌≡◌, ◌<◌, ◌≤◌, ◌+◌, ◌*◌, ◌++◌, ◌∷◌, [], IfOk, IfSome, OnOk, length, map, slice_index_or};
 ghost use Rattle.std.specs.List.{All};
 ghost use Rattle.cell_types.specs.Rows.{values_at};
 ghost use Rattle.cell_types.specs.Value.{null, value_view};
-ghost use Rattle.value_rows.specs.Packed.{lent_value_view};
+ghost use Rattle.value_rows.specs.Packed.{lent_value_view, AreTextsWithin};
 ghost use Rattle.value_rows.specs.ValueRows.{numbered, rows_of};
 
 use crate::packed::PackedValues;
@@ -104,6 +104,23 @@ impl ValueRows {
             ≡ slice_index_or (slice_index_or self.now.rows row []) col null }
     {
         value_of(self.lent(row, col))
+    }
+
+    /// Writes how many bytes the text of each row has in a column, of as many rows from `first` on as there are places. Returns bytes that have all these texts, or `None` if they
+    /// are not known to be texts one after another.
+    #[inline(always)]
+    pub fn text_lengths(&self, first: usize, col: usize, lengths: &mut [usize]) -> Option<&[u8]>
+        requires some { 0 < length lengths.old }
+        requires rows { first + length lengths.old ≤ length self.now.rows }
+        requires col { col < self.now.width }
+        ensures long { length lengths.new ≡ length lengths.old }
+        ensures texts { IfSome result (λ bytes. AreTextsWithin
+            (λ i. slice_index_or (slice_index_or self.now.rows (first + i) []) col null)
+            lengths.new bytes.now) }
+    {
+        self.values.are_few();
+        self.values
+            .text_lengths(first * self.width + col, self.width, lengths)
     }
 
     /// Appends copies of the values that a row has in the columns with these places to others.

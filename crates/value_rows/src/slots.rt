@@ -1,7 +1,7 @@
 //! Values packed to 16 bytes each.
-ghost use Rattle.std.specs.Prelude.{◌≡◌, ℕ, List, IfOk, IfSome, string_bytes};
+ghost use Rattle.std.specs.Prelude.{◌≡◌, ◌+◌, ◌*◌, ◌^◌, ◌<◌, ℕ, List, IfOk, IfSome, length, string_bytes};
 ghost use Rattle.cell_types.specs.Value.{value_view};
-ghost use Rattle.value_rows.specs.Packed.{lent_value_view, slot_view, Grow, Grows, GrowsByText, IsSlotOfValue, IsPlain, IsSlot, IsTextSlot};
+ghost use Rattle.value_rows.specs.Packed.{lent_value_view, slot_view, AreSpanned, Grow, Grows, GrowsByText, IsSlotOfValue, IsPlain, IsSlot, IsTextSlot};
 
 use cell_types::{Value, owned};
 use jiff_core::civil::Date;
@@ -86,6 +86,40 @@ pub(crate) fn lent_at<'a>(
         }
         Slot::Other(other) => LentValue::Other(&others[other].value),
     }
+}
+
+/// Writes how many bytes each text has, of the slots from one on of which each comes `step` places after the one before. Returns the places between which all of them are among all
+/// texts, or `None` if a slot is not that of a text, or its text begins before the one before it ends.
+#[inline(always)]
+pub(crate) fn text_lengths(
+    slots: &[Slot],
+    from: usize,
+    step: usize,
+    lengths: &mut [usize],
+) -> Option<(usize, usize)>
+    requires some { 0 < length lengths.old }
+    requires few { length slots.now < 2 ^ 63 }
+    requires within { (i : ℕ) → i < length lengths.old → from + i * step < length slots.now }
+    ensures long { length lengths.new ≡ length lengths.old }
+    ensures spanned { IfSome result
+        (λ span. AreSpanned slots.now from step lengths.new span.0 span.1) }
+{
+    let Slot::Text(low, _) = slots[from] else {
+        return None;
+    };
+    let low = low as usize;
+    let mut high = low;
+    for i in 0..lengths.len() {
+        let Slot::Text(start, len) = slots[from + i * step] else {
+            return None;
+        };
+        if (start as usize) < high {
+            return None;
+        }
+        high = start as usize + len as usize;
+        lengths[i] = len as usize;
+    }
+    Some((low, high))
 }
 
 /// Returns the slot of a value that is no text and no number beyond 64 bits.

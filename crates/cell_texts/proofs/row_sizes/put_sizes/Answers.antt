@@ -44,10 +44,10 @@ loop-col-2-init g c = λ k h. filled _ _ _ k (c.fill.ensures.after (λ y e. e)) 
 pub loop-col-2-preserved : goal.loop-col-2-preserved
 loop-col-2-preserved g c = λ k h.
     let values = get_or c.args.columns.now.rows (c.args.first + k) [] in
-    let less : k < length c.fill.new.self = omega (arith, h, c.add_far_cells.ensures.long) in
+    let less : k < length c.fill.new.self = omega (arith, h, c.add_column.ensures.long) in
     let wide : length values ≡ length c.args.columns.now.kinds = c.rows_are_wide.ensures (c.args.first + k) [] (omega (arith, less)) in
     value_more (printed_value (JSON-type (number g.row.JSON))) values (get_or values c.loop-col-2.col null) c.args.frame c.loop-col-2.col _ _
-    (omega (arith, c.loop-col-2-test.true, c.width-col-end-in-None.ensures, wide)) refl (c.loop-col-2.invariant k (omega (arith, less))) (c.add_far_cells.ensures.each k (omega (arith, less)))
+    (omega (arith, c.loop-col-2-test.true, c.width-col-end-in-None.ensures, wide)) refl (c.loop-col-2.invariant k (omega (arith, less))) (c.add_column.ensures.each k (omega (arith, less)))
 
 pub returns-after-loop-col-clause-sizes : goal.returns-after-loop-col-clause-sizes
 returns-after-loop-col-clause-sizes g c = λ k h.
