@@ -26,6 +26,7 @@ impl<'a> Model for ItemColumns<'a> {
 }
 
 /// Returns the value that a column has for a row, or null if it has none.
+#[inline(always)]
 fn kept_value(values: &PackedValues, number: usize) -> Value<'_>
     ensures { value_view result ≡ slice_index_or values.now number null }
 {
@@ -52,6 +53,7 @@ fn kept_row<'c>(
 }
 
 /// Returns the value in the column with a number, or null if there is no such column.
+#[inline(always)]
 fn table_value(columns: &Columns, number: usize, place: usize) -> Value<'_>
     requires { number < length columns.now.rows }
     ensures { value_view result
@@ -117,6 +119,7 @@ impl<'a> ItemColumns<'a> {
     }
 
     /// Returns the value in the column with a number, or null if there is no such column.
+    #[inline(always)]
     pub fn value(&self, number: usize, place: usize) -> Value<'_>
         requires { number < length self.now.rows }
         ensures { value_view result

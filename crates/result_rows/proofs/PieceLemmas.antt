@@ -1,9 +1,10 @@
 -- The next rows of an order.
-use Rattle.std.proofs.Common.{◌≡◌, ◌<◌, ◌≤◌, ◌-◌, ◌+◌, ◌++◌, ℕ, suc, List, [], ◌∷◌, Some, None, append-nil, append_assoc, arith, drop, get_or, length, subst, sym, take, ap, ◌∙◌}
+use Rattle.std.proofs.Common.{◌≡◌, ◌<◌, ◌≤◌, ◌-◌, ◌+◌, ◌++◌, ℕ, zero, suc, List, [], ◌∷◌, Some, None, append-nil, append_assoc, arith, drop, get_or, length, map, min, refl, subst, sym, take, ap, ◌∙◌}
 use Rattle.std.specs.List.{All}
 use Rattle.std.proofs.Math.Seq.{take-nil}
-use Rattle.std.proofs.lemmas.List.{map-append}
-use Rattle.std.proofs.lemmas.List.Elements.{All-append}
+use Rattle.std.proofs.Math.Nat.{min-le_right}
+use Rattle.std.proofs.lemmas.List.{drop-map, drop_min, length-append, length-drop, length-take, map-append, take-map}
+use Rattle.std.proofs.lemmas.List.Elements.{All-append, All-drop, All-take}
 use Rattle.cell_types.specs.Value.{CellValue}
 use Rattle.row_columns.specs.Picked.{numbered}
 use Rattle.row_columns.proofs.NumberedLaws.{all_numbered, all_within}
@@ -64,11 +65,33 @@ all_taken rows first most turns left numbers has over =
     let none : most - turns ≡ 0 = omega (arith, over) in
     taken_all rows first most turns left numbers has (ap (λ k. take k (left_rows left rows)) none)
 
--- rows as they stand
-pub stored_piece : (rows : List (List CellValue)) (skip top : ℕ) (all numbers : List ℕ) → all ≡ numbers_from 0 (length rows)
-    → numbered numbers rows ≡ take top (drop skip (numbered all rows)) → ((n : ℕ) → All (λ i. i < n) all → All (λ i. i < n) numbers)
+-- ---- rows as they stand
+
+turned : {X : Type 0} (xs ys : List X) (n : ℕ) → n ≡ length xs → take n (xs ++ ys) ≡ xs
+turned [] ys zero e = refl
+turned [] ys (suc n) e = absurd (omega arith)
+turned (x ∷ xs) ys zero e = absurd (omega arith)
+turned (x ∷ xs) ys (suc n) e = ap (λ zs. x ∷ zs) (turned xs ys n (omega arith))
+
+pub without_first : {X : Type 0} (xs ys zs : List X) (skip s : ℕ) → s ≡ min skip (length xs) → ys ≡ drop s xs ++ take s xs → zs ≡ take (length ys - s) ys → zs ≡ drop skip xs
+without_first xs ys zs skip s e f g =
+    let long = length-drop s xs in
+    let short = length-take s xs in
+    let both_parts = length-append (drop s xs) (take s xs) in
+    let all : length ys ≡ length (drop s xs ++ take s xs) = ap length f in
+    let least = min-le_right skip (length xs) in
+    g ∙ ap (take (length ys - s)) f ∙ turned (drop s xs) (take s xs) (length ys - s) (omega (arith, long, short, both_parts, all, least, e))
+    ∙ ap (λ n. drop n xs) e ∙ drop_min skip xs
+
+pub stored_piece : (rows : List (List CellValue)) (skip top : ℕ) (numbers : List ℕ) → numbers ≡ take top (drop skip (numbers_from 0 (length rows)))
     → AreNumbersLeft rows (take top (drop skip rows)) numbers
-stored_piece rows skip top all numbers is piece within = record {
-  rows_are = piece ∙ ap (λ ns. take top (drop skip (numbered ns rows))) is ∙ ap (λ rs. take top (drop skip rs)) (all_numbered rows);
-  within = within (length rows) (subst (All (λ i. i < length rows)) (sym is) (all_within (length rows)));
-}
+stored_piece rows skip top numbers is =
+    let all = numbers_from 0 (length rows) in
+    let f : ℕ → List CellValue = λ n. get_or rows n [] in
+    record {
+      rows_are =
+          ap (map f) is ∙ sym (take-map f top (drop skip all)) ∙ ap (take top) (sym (drop-map f skip all)) ∙ ap (λ rs. take top (drop skip rs)) (all_numbered rows);
+      within =
+          subst (All (λ i. i < length rows)) (sym is)
+          (All-take (λ i. i < length rows) top (drop skip all) (All-drop (λ i. i < length rows) skip all (all_within (length rows))));
+    }

@@ -9,7 +9,7 @@ use crate::rows::Rows;
 use crate::skip::skip_rows;
 use row_columns::Columns;
 use row_selection::Selection;
-use sort_rows::{SortedRows, piece};
+use sort_rows::SortedRows;
 use std::alloc::{AllocError, Global};
 
 /// Returns the numbers of the first `len` rows.
@@ -17,6 +17,18 @@ pub fn all_numbers(alloc: Global, len: usize) -> Result<Vec<usize>, AllocError>
     ensures { IfOk result (λ numbers. numbers.items ≡ numbers_from 0 len) }
 {
     Selection::all(len).to_vec(alloc)
+}
+
+/// Returns all but the first `skip` of numbers, and of these the first `top`.
+fn piece(numbers: Vec<usize>, skip: u64, top: u64) -> Vec<usize>
+    ensures { result.items ≡ take top (drop skip numbers.items) }
+{
+    let mut numbers = numbers;
+    let skipped = skip.min(numbers.len() as u64) as usize;
+    numbers.rotate_left(skipped);
+    numbers.truncate(numbers.len() - skipped);
+    numbers.truncate(top.min(numbers.len() as u64) as usize);
+    numbers
 }
 
 /// Returns the numbers of the next rows of an order: of `most` of them, or of all that are left.
@@ -56,7 +68,7 @@ fn piece_numbers(
 {
     let Some(order) = order else {
         let all = all_numbers(alloc, columns.len())?;
-        return Ok(piece(all, skip, Some(top)));
+        return Ok(piece(all, skip, top));
     };
     let mut order = order;
     let skip = (skip as usize).min(columns.len()); // no more rows are passed over than there are

@@ -136,13 +136,10 @@ fn is_not_after(
 }
 
 /// Returns a column of the same type at another place.
-fn moved(column: PlainColumn, col: usize) -> PlainColumn
-    ensures { result ≡ moved_to col column }
+fn moved(column: PlainColumn, place: usize) -> PlainColumn
+    ensures { result ≡ moved_to place column }
 {
-    PlainColumn {
-        place: col,
-        ..column
-    }
+    PlainColumn { place, ..column }
 }
 
 /// Returns the place of the column that the first item is.

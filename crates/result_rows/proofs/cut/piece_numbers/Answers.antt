@@ -11,7 +11,8 @@ pub returns-in_default : goal.returns-in_default
 returns-in_default c =
     let rows = c.args.columns.now.rows in
     subst (λ o. AreNumbersLeft rows (take c.args.top (drop c.args.skip (rows_in_order o rows))) c.piece.result.items) (sym c.in_default.is)
-    (stored_piece rows c.args.skip c.args.top c.in_ok-all.all.items c.piece.result.items (c.in_ok-all.ensures ∙ ap (numbers_from 0) c.len.ensures) (c.piece.ensures.rows rows) c.piece.ensures.within)
+    (stored_piece rows c.args.skip c.args.top c.piece.result.items
+    (c.piece.ensures ∙ ap (λ ns. take c.args.top (drop c.args.skip ns)) (c.in_ok-all.ensures ∙ ap (numbers_from 0) c.len.ensures)))
 
 -- no fewer rows are passed over, since there are no more
 pub returns : goal.returns
