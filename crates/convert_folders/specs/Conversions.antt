@@ -1,9 +1,12 @@
 -- Folders whose files were converted, and checked as they were written.
 use Rattle.std.specs.Prelude.{ℕ, List, [], ◌∷◌, Some}
+use Rattle.csvw_meta.specs.Schema.{SchemaOf}
 use Rattle.file_convert.specs.Conversion.{IsConversion}
 use Rattle.file_convert.specs.declared.asks.ConvertOptions.{ConvertOptions}
 use Rattle.file_convert.specs.declared.report.Converted.{Converted}
+use Rattle.file_passes.specs.Passes.{IsCheckedAs}
 use Rattle.folder_checks.specs.FolderChecks.{with_last, IsCheckingFolder, IsServedBy}
+use Rattle.folder_checks.specs.declared.file_check.FileCheck.{FileCheck}
 use Rattle.folder_checks.specs.declared.folder_check.FolderCheck.{FolderCheck}
 use Rattle.table_store.specs.File.{FileOf}
 
@@ -19,6 +22,10 @@ AreConversions (file ∷ files) = IsSomeConversion file.bytes × AreConversions 
 -- the folder of such files with that metadata is served
 abbrev pub IsServedConversion : List ℕ → Type 0
 IsServedConversion meta = (files : List FileOf) × AreConversions files × IsServedBy meta files
+
+-- the bytes that were checked are the conversion of some file
+abbrev pub IsCheckedConversion : SchemaOf → FileCheck → Type 0
+IsCheckedConversion schema check = (asks : ConvertOptions) × IsCheckedAs asks schema check
 
 -- the file of the next table is a conversion, and the folder was checked with it
 abbrev pub ChecksConversion : FolderCheck → FolderCheck → Type 0

@@ -1,8 +1,8 @@
 //! What is changed in a file.
-use crate::columns::report_column;
+use crate::columns::{report_asked, report_changed, report_nulls, report_rounded};
 use crate::proposals::report_proposals;
 use crate::report::{About, Report, Status};
-use file_convert::{Converted, ReportKind};
+use file_convert::{Converted, is_dropped};
 use text_encodings::Encoding;
 
 /// Returns what is changed of an encoding; nothing if nothing is.
@@ -49,37 +49,23 @@ fn report_count(report: &mut Report, file: &str, count: usize, words: &str) {
 pub(crate) fn report_changes(report: &mut Report, file: &str, table: &str, made: &Converted) {
     report_words(report, file, encoding_words(made.encoding));
     report_words(report, file, separator_words(made.separator));
-    report_count(
-        report,
-        file,
-        made.skipped,
-        " lines before the header are left out",
-    );
-    report_count(
-        report,
-        file,
-        made.returns,
-        " line breaks are a CR alone, written as LF",
-    );
-    report_count(report, file, made.counts.blank, " empty lines are left out");
-    report_count(
-        report,
-        file,
-        made.counts.short,
-        " rows are filled with empty cells",
-    );
     let columns = made.columns.iter();
-    let empty = columns
-        .filter(|column| matches!(column.kind, ReportKind::Empty))
-        .count();
-    report_count(
-        report,
-        file,
-        empty,
-        " empty columns at the right are left out",
-    );
+    let empty = columns.filter(|column| is_dropped(column.kind)).count();
+    let counts = [
+        (made.skipped, " lines before the header are left out"),
+        (made.returns, " line breaks are a CR alone, written as LF"),
+        (made.counts.blank, " empty lines are left out"),
+        (made.counts.short, " rows are filled with empty cells"),
+        (empty, " empty columns at the right are left out"),
+    ];
+    for (count, words) in &counts {
+        report_count(report, file, *count, words);
+    }
     for column in made.columns.as_slice() {
-        report_column(report, file, column);
+        report_changed(report, file, column);
+        report_rounded(report, file, column);
+        report_nulls(report, file, column);
+        report_asked(report, file, column);
         report_proposals(report, file, table, column);
     }
 }

@@ -19,7 +19,7 @@ pub(crate) fn about<'a>(status: Status, file: &'a str, column: &'a ColumnReport)
 }
 
 /// Reports the cells that are changed.
-fn report_changed(report: &mut Report, file: &str, column: &ColumnReport) {
+pub(crate) fn report_changed(report: &mut Report, file: &str, column: &ColumnReport) {
     if let ReportKind::Form(form) = column.kind
         && column.changed > 0
     {
@@ -46,7 +46,7 @@ pub(crate) fn say_difference(report: &mut Report, difference: u64) {
 }
 
 /// Reports the cells that are rounded.
-fn report_rounded(report: &mut Report, file: &str, column: &ColumnReport) {
+pub(crate) fn report_rounded(report: &mut Report, file: &str, column: &ColumnReport) {
     if column.fine > 0 && column.rounds {
         report.say_count(
             column.fine,
@@ -72,7 +72,7 @@ fn end_null(report: &mut Report, file: &str, column: &ColumnReport, count: usize
 }
 
 /// Reports the texts that stand for null in a column of values.
-fn report_nulls(report: &mut Report, file: &str, column: &ColumnReport) {
+pub(crate) fn report_nulls(report: &mut Report, file: &str, column: &ColumnReport) {
     for (word, count) in NULLS.iter().zip(column.nulls.as_slice()) {
         if *count > 0 && matches!(column.kind, ReportKind::Form(_)) {
             report.say_count(*count, " cells: ");
@@ -84,7 +84,7 @@ fn report_nulls(report: &mut Report, file: &str, column: &ColumnReport) {
 }
 
 /// Reports the text that stands for null because this is asked.
-fn report_asked(report: &mut Report, file: &str, column: &ColumnReport) {
+pub(crate) fn report_asked(report: &mut Report, file: &str, column: &ColumnReport) {
     if let Some(null) = &column.asked_null
         && column.asked_cells > 0
     {
@@ -93,12 +93,4 @@ fn report_asked(report: &mut Report, file: &str, column: &ColumnReport) {
         report.say(" is null");
         end_null(report, file, column, column.asked_cells);
     }
-}
-
-/// Reports what is changed in a column of a file.
-pub(crate) fn report_column(report: &mut Report, file: &str, column: &ColumnReport) {
-    report_changed(report, file, column);
-    report_rounded(report, file, column);
-    report_nulls(report, file, column);
-    report_asked(report, file, column);
 }

@@ -8,7 +8,6 @@ mod convert;
 mod forms;
 mod metadata;
 mod places;
-mod progress;
 mod proposals;
 mod publish;
 mod refusals;

@@ -12,8 +12,10 @@ use serde_json::Value;
 use std::alloc::{AllocError, Global};
 use value_forms::Form;
 
-/// What metadata begins and ends with.
+/// What is before the first table of metadata, between two of them, and after the last.
 const BEFORE: &[u8] = b"{\n\"@context\": \"http://www.w3.org/ns/csvw\",\n\"tables\": [\n";
+
+const BETWEEN: &[u8] = b",\n";
 
 const AFTER: &[u8] = b"\n]\n}\n";
 
@@ -70,8 +72,7 @@ fn fit_column(
     if is_number(report) && matches!(column.datatype, Datatype::Text) {
         column.datatype = Datatype::Decimal;
     }
-    add_nulls(alloc, column, report)?;
-    Ok(report.is_text || report.asked_cells > 0)
+    add_nulls(alloc, column, report).and(Ok(report.is_text || report.asked_cells > 0))
 }
 
 /// Fits a drafted schema to what was found in its columns.
@@ -94,39 +95,39 @@ pub fn fit_schema(
     Ok(())
 }
 
-/// Adds a table with the name of the file from which it comes.
+/// Returns a text as a JSON text.
+fn json_text(alloc: Global, text: &str) -> Result<String, AllocError> {
+    Value::String(String::from_str(alloc, text)?).to_string(alloc)
+}
+
+/// Adds a table with the name of the file from which it comes, after another text.
 fn push_table(
     alloc: Global,
     text: &mut Vec<u8>,
-    schema: &Schema,
-    title: &str,
+    before: &[u8],
+    table: &Table,
 ) -> Result<(), AllocError> {
-    let table = table_json(alloc, schema)?;
+    let title = json_text(alloc, table.file.as_str())?;
+    let table = table_json(alloc, &table.schema)?;
     let rest = match table.as_slice() {
         [b'{', rest @ ..] => rest,
         all => all,
     };
-    let title = String::from_str(alloc, title)?;
-    let title = Value::String(title).to_string(alloc)?;
-    text.extend_from_slice(b"{\n  \"dc:title\": ")?;
-    text.extend_from_slice(title.as_bytes())?;
-    text.extend_from_slice(b",")?;
-    text.extend_from_slice(rest)
+    for part in [before, b"{\n  \"dc:title\": ", title.as_bytes(), b",", rest] {
+        text.extend_from_slice(part)?;
+    }
+    Ok(())
 }
 
 /// Returns the text of the tables with the names of the files from which they come.
 fn tables_text(alloc: Global, tables: &[Table]) -> Result<Vec<u8>, AllocError> {
-    let mut text = Vec::from_slice(alloc, BEFORE)?;
-    let mut is_first = true;
+    let mut text = Vec::new(alloc);
+    let mut before = BEFORE;
     for table in tables {
-        if !is_first {
-            text.extend_from_slice(b",\n")?;
-        }
-        is_first = false;
-        push_table(alloc, &mut text, &table.schema, table.file.as_str())?;
+        push_table(alloc, &mut text, before, table)?;
+        before = BETWEEN;
     }
-    text.extend_from_slice(AFTER)?;
-    Ok(text)
+    text.extend_from_slice(AFTER).and(Ok(text))
 }
 
 /// Returns metadata that has the tables and the names of the files from which these come, as the text of `csv-metadata.json`. It is not checked.

@@ -12,7 +12,7 @@ const MOST_NAME: usize = 120;
 /// Returns a name without its end, if it is that of a file that is converted.
 fn stem_of(name: &str) -> Option<&str> {
     let (stem, end) = name.rsplit_once('.')?;
-    for other in ENDS {
+    for other in &ENDS {
         if end.eq_ignore_ascii_case(other) {
             return Some(stem);
         }

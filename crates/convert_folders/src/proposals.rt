@@ -27,24 +27,20 @@ fn propose_round(report: &mut Report, file: &str, column: &ColumnReport) {
     }
 }
 
-/// Proposes one of two lines of `--columns` for a column of a table.
-fn propose_rule(report: &mut Report, table: &str, column: &ColumnReport, rules: (&str, &str)) {
-    let (one, other) = rules;
-    let title = text(column.title.as_slice());
-    for text in [
-        "--columns FILE, with the line ",
-        table,
-        ".",
-        title,
-        one,
-        ", or ",
-        table,
-        ".",
-        title,
-        other,
-    ] {
+/// Appends a line of `--columns` for a column of a table to the option.
+fn push_rule(report: &mut Report, table: &str, title: &str, rule: &str) {
+    for text in [table, ".", title, rule] {
         report.option.push(text);
     }
+}
+
+/// Proposes one of two lines of `--columns` for a column of a table.
+fn propose_rule(report: &mut Report, table: &str, column: &ColumnReport, rules: (&str, &str)) {
+    let title = text(column.title.as_slice());
+    report.option.push("--columns FILE, with the line ");
+    push_rule(report, table, title, rules.0);
+    report.option.push(", or ");
+    push_rule(report, table, title, rules.1);
 }
 
 /// Proposes texts that may stand for null in a column of texts.

@@ -2,7 +2,7 @@
 ghost use Rattle.convert_folders.specs.Conversions.{IsServedConversion};
 
 use crate::rules::ColumnRule;
-use crate::tables::{Table, write_folder};
+use crate::tables::{Table, Writing, write_folder};
 use draft_args::Conversion;
 use schema_inference::DraftFault;
 use served_folders::METADATA;
@@ -14,8 +14,8 @@ use std::rt::Files;
 /// The exit status if all was done.
 const DONE: u8 = 0;
 
-/// The exit status of a refused folder.
-const REFUSED: u8 = 1;
+/// The exit status of a refused folder or file.
+pub(crate) const REFUSED: u8 = 1;
 
 /// Writes a new file, and has it reach its device.
 fn write_file(rt: &HostRuntime, path: &str, bytes: &[u8]) -> io::Result<()> {
@@ -24,9 +24,9 @@ fn write_file(rt: &HostRuntime, path: &str, bytes: &[u8]) -> io::Result<()> {
     file.sync_all()
 }
 
-/// Returns a path without the slash at its end.
-fn without_slash(path: &str) -> &str {
-    path.trim_end_matches('/')
+/// Returns the path of a name in a folder.
+pub(crate) fn path_in(rt: &HostRuntime, folder: &str, name: &str) -> io::Result<String> {
+    Ok(format!(in rt.alloc(); "{folder}/{name}")?)
 }
 
 /// A new folder that is not whole yet: its path beside its place.
@@ -41,7 +41,7 @@ impl Half {
     /// Makes a folder without files under another name beside a path. If nothing is to be written, nothing is made.
     pub fn new(rt: &HostRuntime, out: &str, is_dry: bool) -> io::Result<Half> {
         let number = process::id(rt.process());
-        let whole = without_slash(out);
+        let whole = out.trim_end_matches('/');
         let path = format!(in rt.alloc(); "{whole}.{number}.half")?;
         if !is_dry {
             rt.create_dir(path.as_str())?;
@@ -49,17 +49,12 @@ impl Half {
         Ok(Half { path, is_dry })
     }
 
-    /// Returns the path of a file of the folder.
-    fn path_of(&self, rt: &HostRuntime, name: &str) -> io::Result<String> {
-        Ok(format!(in rt.alloc(); "{}/{name}", self.path)?)
-    }
-
     /// Makes a file, unless nothing is to be written.
     pub fn create(&self, rt: &HostRuntime, name: &str) -> io::Result<Option<File>> {
         if self.is_dry {
             return Ok(None);
         }
-        Ok(Some(File::create_new(rt, self.path_of(rt, name)?.as_str())?))
+        Ok(Some(File::create_new(rt, path_in(rt, self.path.as_str(), name)?.as_str())?))
     }
 
     /// Removes the files of the folder.
@@ -80,10 +75,10 @@ impl Half {
 
     /// Writes the metadata, and gives the folder its name.
     fn finish(&self, rt: &HostRuntime, out: &str, metadata: &[u8]) -> io::Result<()> {
-        write_file(rt, self.path_of(rt, METADATA)?.as_str(), metadata)?;
         let path = self.path.as_str();
+        write_file(rt, path_in(rt, path, METADATA)?.as_str(), metadata)?;
         fs::open(rt, path)?.sync_all()?;
-        rt.rename(path, without_slash(out))
+        rt.rename(path, out.trim_end_matches('/'))
     }
 
     /// Writes the metadata, with which the folder is served, and gives it its name. If a step fails, the folder is removed.
@@ -102,8 +97,7 @@ impl Half {
 
 /// Reports why nothing is written, and returns the exit status.
 fn refuse_for(rt: &HostRuntime, line: &str) -> io::Result<u8> {
-    eprintln!(rt; "refused: {line}")?;
-    Ok(REFUSED)
+    eprintln!(rt; "refused: {line}").and(Ok(REFUSED))
 }
 
 /// Reports why there is no metadata, and returns the exit status.
@@ -119,12 +113,17 @@ fn refuse_metadata(rt: &HostRuntime, fault: &DraftFault) -> io::Result<u8> {
 /// Writes the tables of a folder and their metadata, and gives it its name, or removes it if nothing is to be written. Returns the exit status.
 pub(crate) fn publish<'x>(
     rt: &HostRuntime,
-    asks: &Conversion<'x>,
-    rules: &[ColumnRule<'x>],
+    asks: &'x Conversion<'x>,
+    rules: &'x [ColumnRule<'x>],
     half: Half,
     tables: &mut [Table],
 ) -> io::Result<u8> {
-    match write_folder(rt, asks, rules, &half, tables) {
+    let by = Writing {
+        asks: &*asks,
+        rules: &*rules,
+        half: &half,
+    };
+    match write_folder(rt, by, tables) {
         Ok(Ok(text)) if !asks.dry_run => {
             let out = asks.out;
             half.publish(rt, out, text.as_slice())?;

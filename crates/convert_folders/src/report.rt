@@ -162,24 +162,23 @@ impl Report {
         }
     }
 
+    /// Prints the entries as JSON.
+    fn print_json(&mut self, rt: &HostRuntime) -> io::Result<()> {
+        let json = replace(&mut self.json, Writer::new(Vec::new(rt.alloc())));
+        let mut text = json.into_inner();
+        text.push(b'\n')?;
+        rt.write_all(text.as_slice())
+    }
+
     /// Prints the entries.
-    pub(crate) fn print(self, rt: &HostRuntime) -> io::Result<()> {
-        let Report {
-            is_json,
-            mut json,
-            lines,
-            refusals,
-            ..
-        } = self;
-        if lines.is_short || refusals.is_short || json.end_array().is_err() {
+    pub(crate) fn print(&mut self, rt: &HostRuntime) -> io::Result<()> {
+        if self.lines.is_short || self.refusals.is_short || self.json.end_array().is_err() {
             return Err(io::Error::from(ErrorKind::OutOfMemory));
         }
-        if is_json {
-            let mut text = json.into_inner();
-            text.push(b'\n')?;
-            return rt.write_all(text.as_slice());
+        if self.is_json {
+            return self.print_json(rt);
         }
-        rt.write_all(lines.text.as_bytes())?;
-        rt.eprint(refusals.text.as_str())
+        rt.write_all(self.lines.text.as_bytes())?;
+        rt.eprint(self.refusals.text.as_str())
     }
 }

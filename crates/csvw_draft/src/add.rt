@@ -31,7 +31,12 @@ fn is_called(column: &Column, other: &Column) -> bool {
         Some(title) => title.as_str(),
         None => other.name.as_str(),
     };
-    column.name.as_str() == header || column.titles.iter().any(|title| title.as_str() == header)
+    for title in &column.titles {
+        if title.as_str() == header {
+            return true;
+        }
+    }
+    column.name.as_str() == header
 }
 
 /// Gives a drafted column another name if a column of a schema has its name, which is its header then.
@@ -69,6 +74,16 @@ fn columns_at(json: &[u8], table: usize) -> Option<usize> {
     member_at(json, schema, b"\"columns\"")
 }
 
+/// Returns the place of the first column from one on that may have the header of another.
+fn place_of(columns: &[Column], next: usize, column: &Column) -> Option<usize> {
+    for place in next..columns.len() {
+        if is_called(&columns[place], column) {
+            return Some(place);
+        }
+    }
+    None
+}
+
 /// Adds the columns of a drafted schema that the schema of a table does not have, if the header of the file has them.
 fn add_columns(out: &mut Spliced<'_>, table: usize, schema: &Schema, drafted: &mut Schema) {
     let Some(columns) = columns_at(out.json, table) else {
@@ -78,11 +93,13 @@ fn add_columns(out: &mut Spliced<'_>, table: usize, schema: &Schema, drafted: &m
     let mut after = None;
     let mut next: usize = 0;
     for column in &mut drafted.columns {
-        let mut others = schema.columns.iter().enumerate().skip(next);
-        match others.find(|(_, other)| is_called(other, column)) {
-            Some((place, _)) => {
+        match place_of(schema.columns.as_slice(), next, column) {
+            Some(place) => {
                 for _passed in next..=place {
-                    after = items.next_item().map(|(_, end)| end);
+                    after = match items.next_item() {
+                        Some((_, end)) => Some(end),
+                        None => None,
+                    };
                 }
                 next = place.saturating_add(1);
             }
@@ -105,7 +122,12 @@ fn add_to_table(out: &mut Spliced<'_>, table: usize, schema: &Schema, drafted: &
 
 /// Returns true if no schema is of the file of a drafted one.
 fn lacks(schemas: &[Schema], draft: &Schema) -> bool {
-    !schemas.iter().any(|schema| schema.url == draft.url)
+    for schema in schemas {
+        if schema.url == draft.url {
+            return false;
+        }
+    }
+    true
 }
 
 /// Adds the tables that the metadata does not have yet at an offset.
@@ -137,7 +159,10 @@ fn add_to_group(out: &mut Spliced<'_>, tables: usize, schemas: &[Schema], drafte
 
 /// Adds what the metadata of one table, which begins at an offset, does not have yet. If that is another table, it becomes that of a group.
 fn add_to_one(out: &mut Spliced<'_>, open: usize, schemas: &[Schema], drafted: &mut [Schema]) {
-    let is_group = drafted.iter().any(|draft| lacks(schemas, draft));
+    let mut is_group = false;
+    for draft in &*drafted {
+        is_group |= lacks(schemas, draft);
+    }
     if is_group {
         out.copy_to(open);
         out.push(BEFORE_GROUP);

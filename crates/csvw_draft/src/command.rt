@@ -47,8 +47,7 @@ fn end_of(rt: &HostRuntime, folder: &str, end: io::Result<u8>) -> u8 {
 
 /// Prints what the words ask `clap` to show, and returns the exit status.
 fn show_text(rt: &HostRuntime, text: &clap::Error) -> io::Result<u8> {
-    text.print(rt)?;
-    Ok(DONE)
+    text.print(rt).and(Ok(DONE))
 }
 
 /// Does what the words ask for, or reports why there is nothing to do. If someone looks on, it reports long work.

@@ -66,8 +66,7 @@ fn write_metadata(rt: &HostRuntime, path: &str, text: &[u8]) -> io::Result<u8> {
             _ => return Err(error),
         },
     }
-    println!(rt; "wrote {path}")?;
-    Ok(DONE)
+    println!(rt; "wrote {path}").and(Ok(DONE))
 }
 
 /// Writes metadata at a path over what is there: beside it first, so that what is there is whole at each moment; and returns the exit status.
@@ -79,8 +78,7 @@ fn replace_metadata(rt: &HostRuntime, path: &str, text: &[u8]) -> io::Result<u8>
         let _ = rt.remove_file(new.as_str());
         return Err(error);
     }
-    println!(rt; "wrote {path}")?;
-    Ok(DONE)
+    println!(rt; "wrote {path}").and(Ok(DONE))
 }
 
 /// Gives the text of metadata, with which a folder is served: prints it, or writes it at a path; and returns the exit status.
@@ -144,14 +142,6 @@ fn checked_text(
     }
 }
 
-/// Returns true if a text is refused for the key of a table.
-fn is_of_key(checked: &Result<Vec<u8>, DraftFault>) -> bool {
-    match checked {
-        Ok(_) => false,
-        Err(fault) => fault.is_of_key(),
-    }
-}
-
 /// Drops the drafted keys that are none: a first column may seem to be the key.
 fn drop_keys(rt: &HostRuntime, folder: &str, drafted: &mut [Schema]) -> io::Result<()> {
     for schema in drafted {
@@ -159,7 +149,8 @@ fn drop_keys(rt: &HostRuntime, folder: &str, drafted: &mut [Schema]) -> io::Resu
             continue;
         }
         let made = draft_text(rt.alloc(), Limits::greatest(), from_ref(schema));
-        if is_of_key(&checked_text(rt, folder, made)?) {
+        let checked = checked_text(rt, folder, made)?;
+        if matches!(&checked, Err(fault) if fault.is_of_key()) {
             schema.key.clear();
         }
     }
@@ -178,7 +169,7 @@ fn checked_draft(
 {
     let made = made_draft(rt.alloc(), &mut *drafted, old);
     let checked = checked_text(rt, folder, made)?;
-    if !is_of_key(&checked) {
+    if !matches!(&checked, Err(fault) if fault.is_of_key()) {
         return Ok(checked);
     }
     drop_keys(rt, folder, &mut *drafted)?;

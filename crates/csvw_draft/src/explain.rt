@@ -80,14 +80,21 @@ fn tell_fault(
     }
 }
 
+/// Returns true if a table of a catalog is that of a file.
+fn has_table(catalog: &Catalog, file: &str) -> bool {
+    for table in catalog.tables() {
+        if table.schema().url.as_str() == file {
+            return true;
+        }
+    }
+    false
+}
+
 /// Prints what the service understands of the tables of a folder, and reports the CSV files that no table names.
 fn show_catalog(rt: &HostRuntime, folder: &str, catalog: &Catalog) -> io::Result<u8> {
     let text = catalog_text(rt.alloc(), catalog)?;
     for name in names_in(rt, folder)? {
-        let mut tables = catalog.tables().iter();
-        if is_csv(name.as_str())
-            && !tables.any(|table| table.schema().url.as_str() == name.as_str())
-        {
+        if is_csv(name.as_str()) && !has_table(catalog, name.as_str()) {
             let name = cut(rt.alloc(), name.as_str())?;
             eprintln!(rt; "not published: {name}: csvw_draft FOLDER --add drafts it")?;
         }

@@ -33,9 +33,9 @@ const OTHER_ENDS: [(&str, &str); 9] = [
 /// Returns what helps with a file that may be a table, by the end of its name.
 fn help_for(name: &str) -> Option<&'static str> {
     let (_, end) = name.rsplit_once('.')?;
-    for (other, help) in OTHER_ENDS {
+    for (other, help) in &OTHER_ENDS {
         if end.eq_ignore_ascii_case(other) {
-            return Some(help);
+            return Some(*help);
         }
     }
     None
@@ -79,28 +79,38 @@ pub fn file_in(rt: &HostRuntime, folder: &str, name: &str) -> io::Result<Vec<u8>
     read_plain(rt.alloc(), rt, path.as_str(), true)
 }
 
-/// Returns the names of the CSV files of a folder, in order. What is no plain file is reported, and left out. If someone looks on, it tells of long ones.
-pub fn csv_names(rt: &HostRuntime, folder: &str, tells: bool) -> io::Result<Vec<String>> {
-    let names = names_in(rt, folder)?;
-    for name in &names {
+/// Reports the names of a folder that are none of CSV files, but may be those of tables.
+fn warn_of_others(rt: &HostRuntime, folder: &str, names: &[String]) -> io::Result<()> {
+    for name in names {
         if !is_csv(name.as_str()) && !name.starts_with('.') {
             warn_left_out(rt, folder, name.as_str())?;
         }
     }
+    Ok(())
+}
+
+/// Returns true if a name of a folder is that of a plain file; reports it if it is none. If someone looks on, it tells of a long one.
+fn is_plain_file(rt: &HostRuntime, folder: &str, name: &str, tells: bool) -> io::Result<bool> {
+    let path = path_in(rt.alloc(), folder, name)?;
+    let found = rt.metadata(path.as_str())?;
+    if found.is_file() && tells {
+        tell_long(rt, name, found.len());
+    }
+    if found.is_file() {
+        Ok(true)
+    } else {
+        warn(rt, name, "no plain file", "").and(Ok(false))
+    }
+}
+
+/// Returns the names of the CSV files of a folder, in order. What is no plain file is reported, and left out. If someone looks on, it tells of long ones.
+pub fn csv_names(rt: &HostRuntime, folder: &str, tells: bool) -> io::Result<Vec<String>> {
+    let names = names_in(rt, folder)?;
+    warn_of_others(rt, folder, names.as_slice())?;
     let mut files = Vec::new(rt.alloc());
     for name in names {
-        if !is_csv(name.as_str()) {
-            continue;
-        }
-        let path = path_in(rt.alloc(), folder, name.as_str())?;
-        let found = rt.metadata(path.as_str())?;
-        if found.is_file() {
-            if tells {
-                tell_long(rt, name.as_str(), found.len());
-            }
+        if is_csv(name.as_str()) && is_plain_file(rt, folder, name.as_str(), tells)? {
             files.push(name)?;
-        } else {
-            warn(rt, name.as_str(), "no plain file", "")?;
         }
     }
     Ok(files)

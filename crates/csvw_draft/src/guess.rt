@@ -59,14 +59,11 @@ fn look_twice(
     }
     let path = path_in(rt.alloc(), folder, name)?;
     match look_into(rt, guesser, path.as_str(), FileGuess::start(rt.alloc()))? {
-        Ok(table) => {
-            if !table.is_open() {
-                return Ok(Ok(table));
-            }
+        Ok(table) if table.is_open() => {
             let again = FileGuess::again(rt.alloc(), table);
             look_into(rt, guesser, path.as_str(), again)
         }
-        Err(cause) => Ok(Err(cause)),
+        looked => Ok(looked),
     }
 }
 

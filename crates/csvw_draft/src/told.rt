@@ -22,8 +22,7 @@ pub fn tell(rt: &HostRuntime, lines: &Line) -> io::Result<()> {
 
 /// Reports why a folder is refused, and returns the exit status.
 pub fn refuse_for(rt: &HostRuntime, line: &str) -> io::Result<u8> {
-    eprintln!(rt; "refused: {line}")?;
-    Ok(REFUSED)
+    eprintln!(rt; "refused: {line}").and(Ok(REFUSED))
 }
 
 /// Reports a cause for which a folder is refused, and what is said after it, and returns the exit status.
@@ -33,8 +32,7 @@ pub fn refuse_cause(rt: &HostRuntime, cause: &LoadFault, after: &str) -> io::Res
     line.push_made(cause.text(rt.alloc()));
     line.push(after);
     line.push("\n");
-    tell(rt, &line)?;
-    Ok(REFUSED)
+    tell(rt, &line).and(Ok(REFUSED))
 }
 
 /// Does what [`refuse_for`] does, for several lines, and reports what helps.
@@ -42,12 +40,10 @@ pub fn refuse(rt: &HostRuntime, lines: &[String], helps: &Line) -> io::Result<u8
     for line in lines {
         refuse_for(rt, line.as_str())?;
     }
-    tell(rt, helps)?;
-    Ok(REFUSED)
+    tell(rt, helps).and(Ok(REFUSED))
 }
 
 /// Prints a text, and returns the exit status.
 pub fn print_text(rt: &HostRuntime, text: &[u8]) -> io::Result<u8> {
-    rt.write_all(text)?;
-    Ok(DONE)
+    rt.write_all(text).and(Ok(DONE))
 }

@@ -13,12 +13,21 @@ pub struct SourceFile<'a> {
 }
 
 /// A pass over a file.
-#[derive(Drop)]
 pub(crate) struct Pass {
     pieces: FilePieces,
     conversion: FileConversion,
     /// The last bytes that were made.
     pub(crate) out: Vec<u8>,
+}
+
+impl Drop for Pass {
+    fn drop(self) {
+        let Pass {
+            pieces: _,
+            conversion: _,
+            out: _,
+        } = self;
+    }
 }
 
 impl Pass {
@@ -60,9 +69,9 @@ impl Pass {
         ensures { IfOk result (EndsPass self) }
     {
         let Pass {
+            pieces: _,
             conversion,
             mut out,
-            ..
         } = self;
         out.clear();
         let converted = conversion.end(&mut out)?;

@@ -50,7 +50,7 @@ pub fn write_file(
     source: &SourceFile<'_>,
     found: Found,
     schema: &Schema,
-    mut to: Option<File>,
+    to: &mut Option<File>,
 ) -> Result<Written, PassFault>
     ensures { IfOk result (λ written. IfOk written (λ end.
         IsCheckedAs source.now.asked (schema_view schema.now) end.1)) }
@@ -61,15 +61,15 @@ pub fn write_file(
         if !pass.next()? {
             break;
         }
-        put(&mut to, pass.out.as_slice())?;
+        put(&mut *to, pass.out.as_slice())?;
         match check_on(rt.alloc(), check, schema, pass.out.as_slice()) {
             Ok(on) => check = on,
             Err(fault) => return Ok(Err(fault)),
         }
     }
     let (converted, rest) = pass.end()?;
-    put(&mut to, rest.as_slice())?;
-    if let Some(file) = &to {
+    put(&mut *to, rest.as_slice())?;
+    if let Some(file) = to {
         file.sync_all()?;
     }
     match check_on(rt.alloc(), check, schema, rest.as_slice()) {

@@ -5,15 +5,16 @@ use file_convert::{ColumnReport, ConvertFault, record_at};
 use std::alloc::Global;
 use std::borrow::CowSlice;
 
-/// Returns true if a text that a draft does not know stands for null in a column.
-fn has_unknown(column: &ColumnReport) -> bool {
-    let nulls = column.nulls.as_slice();
-    [2, 7].iter().any(|place: &usize| nulls.get(*place).is_some_and(|count| *count > 0))
-}
-
 /// Returns true if texts that a draft does not know stand for null in columns.
 pub fn has_unknown_nulls(columns: &[ColumnReport]) -> bool {
-    columns.iter().any(has_unknown)
+    for column in columns {
+        if let [_, _, two, _, _, _, _, seven, ..] = column.nulls.as_slice()
+            && (*two > 0 || *seven > 0)
+        {
+            return true;
+        }
+    }
+    false
 }
 
 /// Returns rows with empty cells in the place of texts that stand for null and that a draft does not know.

@@ -25,36 +25,45 @@ impl From<io::Error> for PassFault {
     }
 }
 
-/// Returns what a file looks like.
-fn look(rt: &HostRuntime, path: &str, asked: &ConvertOptions<'_>) -> Result<Looked, PassFault> {
-    let mut pieces = FilePieces::open(rt, path)?;
-    let mut look = FileLook::new(rt.alloc());
+/// Looks at the pieces of a file.
+fn look_at(pieces: &mut FilePieces, look: &mut FileLook) -> Result<(), PassFault> {
     for _piece in 0..u64::MAX {
         if !pieces.read()? {
             break;
         }
         look.feed(pieces.piece.as_slice())?;
     }
+    Ok(())
+}
+
+/// Returns what a file looks like.
+fn look(rt: &HostRuntime, path: &str, asked: &ConvertOptions<'_>) -> Result<Looked, PassFault> {
+    let mut look = FileLook::new(rt.alloc());
+    look_at(&mut FilePieces::open(rt, path)?, &mut look)?;
     Ok(look.end(asked)?)
 }
 
-/// Returns what is found in the columns of a file.
-fn see(
-    rt: &HostRuntime,
-    path: &str,
-    asked: &ConvertOptions<'_>,
-    looked: Looked,
-) -> Result<Found, PassFault> {
-    let mut pieces = FilePieces::open(rt, path)?;
-    pieces.read()?;
-    let first = pieces.piece.as_slice();
-    let mut seeing = Seeing::start(rt.alloc(), *asked, looked, first)?;
+/// Sees the cells of the pieces of a file that follow the first.
+fn see_rest(pieces: &mut FilePieces, seeing: &mut Seeing<'_>) -> Result<(), PassFault> {
     for _piece in 0..u64::MAX {
         if !pieces.read()? {
             break;
         }
         seeing.feed(pieces.piece.as_slice())?;
     }
+    Ok(())
+}
+
+/// Returns what is found in the columns of a file, of which nothing is read yet.
+fn see(
+    rt: &HostRuntime,
+    pieces: &mut FilePieces,
+    asked: &ConvertOptions<'_>,
+    looked: Looked,
+) -> Result<Found, PassFault> {
+    pieces.read()?;
+    let mut seeing = Seeing::start(rt.alloc(), *asked, looked, pieces.piece.as_slice())?;
+    see_rest(pieces, &mut seeing)?;
     Ok(seeing.end()?)
 }
 
@@ -65,5 +74,5 @@ pub fn found_in(
     asked: &ConvertOptions<'_>,
 ) -> Result<Found, PassFault> {
     let looked = look(rt, path, asked)?;
-    see(rt, path, asked, looked)
+    see(rt, &mut FilePieces::open(rt, path)?, asked, looked)
 }

@@ -21,7 +21,12 @@ fn file_point(columns: &[CellsSeen]) -> Point {
 
 /// Returns true if no cell of a column says anything.
 fn is_empty(seen: &CellsSeen) -> bool {
-    seen.cells == 0 && seen.nulls.as_slice().iter().all(|count| *count == 0)
+    for count in seen.nulls.as_slice() {
+        if *count > 0 {
+            return false;
+        }
+    }
+    seen.cells == 0
 }
 
 /// Returns a report of a column by what is found in it and asked for. Nothing is changed in it yet.
@@ -33,8 +38,14 @@ fn report_of(
     wants: Wants<'_>,
 ) -> Result<ColumnReport, AllocError> {
     let is_open = matches!(kind, ReportKind::TwoPoints | ReportKind::TwoOrders);
-    let mut report = ColumnReport {
-        title: Vec::new(alloc),
+    let asked_null = match wants.null {
+        Some(text) => Some(Vec::from_slice(alloc, text.as_bytes())?),
+        None => None,
+    };
+    Ok(ColumnReport {
+        asked_null,
+        title: Vec::from_slice(alloc, title)?,
+        nulls: Vec::from_slice(alloc, seen.nulls.as_slice())?,
         kind,
         changed: 0,
         line: 0,
@@ -44,18 +55,10 @@ fn report_of(
         fine_line: 0,
         difference: 0,
         rounds: wants.round,
-        nulls: Vec::new(alloc),
-        asked_null: None,
         asked_cells: 0,
         is_text: wants.text || is_open,
         place: 0,
-    };
-    report.title.extend_from_slice(title)?;
-    report.nulls.extend_from_slice(seen.nulls.as_slice())?;
-    if let Some(text) = wants.null {
-        report.asked_null = Some(Vec::from_slice(alloc, text.as_bytes())?);
-    }
-    Ok(report)
+    })
 }
 
 /// Returns what is found in a column.
@@ -100,11 +103,14 @@ pub(crate) fn reports_of(
 
 /// Marks the columns at the right that have neither a name nor a cell.
 fn drop_columns(columns: &[CellsSeen], reports: &mut [ColumnReport]) {
-    for (seen, report) in columns.iter().zip(reports.iter_mut()).rev() {
-        if !report.title.is_empty() || !is_empty(seen) {
-            return;
+    for back in 1..=reports.len() {
+        let place = reports.len().saturating_sub(back);
+        if let (Some(seen), Some(report)) = (columns.get(place), reports.get_mut(place)) {
+            if !report.title.is_empty() || !is_empty(seen) {
+                return;
+            }
+            report.kind = ReportKind::Empty;
         }
-        report.kind = ReportKind::Empty;
     }
 }
 

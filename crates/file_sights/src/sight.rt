@@ -19,6 +19,16 @@ pub(crate) struct Sight {
     pub(crate) ragged: usize,
 }
 
+/// Returns true if a row has fewer cells than a width, or more that are not empty.
+fn is_uneven(cells: &[RecordCell<'_>], width: usize) -> bool {
+    for place in width..cells.len() {
+        if !cells[place].as_slice().is_empty() {
+            return true;
+        }
+    }
+    cells.len() < width
+}
+
 impl Sight {
     /// Returns what is seen of nothing.
     pub(crate) fn new(alloc: Global) -> Sight {
@@ -60,8 +70,10 @@ impl Sight {
     /// Sees the cells of a row.
     fn see_cells(&mut self, alloc: Global, cells: &[RecordCell<'_>]) -> Result<(), AllocError> {
         self.add_columns(alloc, cells.len())?;
-        for (seen, cell) in self.columns.iter_mut().zip(cells) {
-            seen.read(cell.as_slice())?;
+        for place in 0..cells.len() {
+            if let Some(seen) = self.columns.get_mut(place) {
+                seen.read(cells[place].as_slice())?;
+            }
         }
         Ok(())
     }
@@ -79,16 +91,10 @@ impl Sight {
             return Ok(());
         }
         self.counts.rows = self.counts.rows.saturating_add(1);
-        let is_short = cells.len() < width;
-        if is_short {
+        if cells.len() < width {
             self.counts.short = self.counts.short.saturating_add(1);
         }
-        if is_short
-            || !cells
-                .iter()
-                .skip(width)
-                .all(|cell| cell.as_slice().is_empty())
-        {
+        if is_uneven(cells, width) {
             self.ragged = self.ragged.saturating_add(1);
             if self.ragged_lines.len() < MOST_LINES {
                 self.ragged_lines.push(line)?;

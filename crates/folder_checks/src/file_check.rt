@@ -21,10 +21,18 @@ use key_index::{KeyStep, KeysReading};
 use std::alloc::Global;
 
 /// A file that is checked as it comes.
-#[derive(Drop)]
 pub struct FileCheck {
     windows: Windows,
     cells: KeptCells,
+}
+
+impl Drop for FileCheck {
+    fn drop(self) {
+        let FileCheck {
+            windows: _,
+            cells: _,
+        } = self;
+    }
 }
 
 /// Returns the fault of a file whose text has that fault.

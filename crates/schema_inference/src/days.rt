@@ -51,8 +51,11 @@ impl Days {
         columns: &[Column],
     ) -> Result<Days, AllocError> {
         let mut counts = Vec::new(alloc);
-        for (col, (seen, column)) in known.iter().zip(columns).enumerate() {
-            if matches!(column.datatype, Datatype::Integer) {
+        for col in 0..columns.len() {
+            let column = &columns[col];
+            if let Some(seen) = known.get(col)
+                && matches!(column.datatype, Datatype::Integer)
+            {
                 let dates = Column {
                     name: String::new(alloc),
                     titles: Vec::new(alloc),
@@ -74,7 +77,12 @@ impl Days {
 
     /// Returns true if a column is left whose cells may be days.
     pub(crate) fn is_open(&self) -> bool {
-        self.counts.iter().any(|count| count.is_open)
+        for count in &self.counts {
+            if count.is_open {
+                return true;
+            }
+        }
+        false
     }
 
     /// Reads the cells of more rows.

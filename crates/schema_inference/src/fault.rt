@@ -6,7 +6,6 @@ use std::alloc::AllocError;
 use table_store::LoadFault;
 
 /// Why there is no draft.
-#[derive(Drop)]
 pub enum DraftFault {
     /// No file is a table that is served.
     NoTables,
@@ -16,6 +15,15 @@ pub enum DraftFault {
     Refused(LoadFault),
     /// Memory ran out.
     NoMemory,
+}
+
+impl Drop for DraftFault {
+    fn drop(self) {
+        match self {
+            DraftFault::Refused(_) => {}
+            DraftFault::NoTables | DraftFault::TooManyTables | DraftFault::NoMemory => {}
+        }
+    }
 }
 
 impl DraftFault {

@@ -10,7 +10,6 @@ use folder_checks::{Fed, Windows};
 use std::alloc::{AllocError, Global};
 
 /// What is known of the rows of a table that were read.
-#[derive(Drop)]
 pub(crate) enum Sight {
     /// Nothing: none was read, or the table has too many columns.
     Nothing,
@@ -20,11 +19,29 @@ pub(crate) enum Sight {
     Looked(TableGuess),
 }
 
+impl Drop for Sight {
+    fn drop(self) {
+        match self {
+            Sight::Nothing => {}
+            Sight::Seen(_) => {}
+            Sight::Looked(_) => {}
+        }
+    }
+}
+
 /// A file that is looked at as it comes.
-#[derive(Drop)]
 pub struct FileGuess {
     windows: Windows,
     sight: Sight,
+}
+
+impl Drop for FileGuess {
+    fn drop(self) {
+        let FileGuess {
+            windows: _,
+            sight: _,
+        } = self;
+    }
 }
 
 /// Returns why a file has no schema whose text has a fault.
@@ -39,23 +56,28 @@ fn cause_of(fault: TextFault) -> Result<LeftOutCause, AllocError>
 }
 
 impl Sight {
-    /// Reads more rows.
-    fn read(self, guesser: &Guesser, rows: IndexedText) -> Result<Sight, AllocError> {
+    /// Reads the first rows, unless the table has too many columns.
+    fn begin(&mut self, guesser: &Guesser, rows: IndexedText) -> Result<(), AllocError> {
+        if rows.width() <= guesser.aims.limits.columns as usize {
+            *self = Sight::Seen(Seen::new(guesser, rows)?);
+        }
+        Ok(())
+    }
+
+    /// Reads rows that are not the first.
+    fn read_on(&mut self, guesser: &Guesser, rows: &IndexedText) -> Result<(), AllocError> {
         match self {
-            Sight::Nothing => {
-                if rows.width() > guesser.aims.limits.columns as usize {
-                    return Ok(Sight::Nothing);
-                }
-                Ok(Sight::Seen(Seen::new(guesser, rows)?))
-            }
-            Sight::Seen(mut seen) => {
-                seen.read(guesser, &rows)?;
-                Ok(Sight::Seen(seen))
-            }
-            Sight::Looked(mut table) => {
-                table.read(guesser.alloc, &rows)?;
-                Ok(Sight::Looked(table))
-            }
+            Sight::Nothing => Ok(()),
+            Sight::Seen(seen) => seen.read(guesser, rows),
+            Sight::Looked(table) => table.read(guesser.alloc, rows),
+        }
+    }
+
+    /// Reads more rows.
+    fn read(&mut self, guesser: &Guesser, rows: IndexedText) -> Result<(), AllocError> {
+        match self {
+            Sight::Nothing => self.begin(guesser, rows),
+            _ => self.read_on(guesser, &rows),
         }
     }
 
@@ -68,14 +90,8 @@ impl Sight {
     ) -> Result<TableGuess, AllocError> {
         match self {
             Sight::Nothing => TableGuess::new(guesser.alloc, Seen::new(guesser, rows)?, count),
-            Sight::Seen(mut seen) => {
-                seen.read(guesser, &rows)?;
-                TableGuess::new(guesser.alloc, seen, count)
-            }
-            Sight::Looked(mut table) => {
-                table.read(guesser.alloc, &rows)?;
-                Ok(table)
-            }
+            Sight::Seen(seen) => seen.end(guesser, &rows, count),
+            Sight::Looked(table) => table.end(guesser.alloc, &rows),
         }
     }
 }
@@ -111,13 +127,13 @@ impl FileGuess {
         ensures { IfOk result (λ fed. (given : List ℕ) → IsLooking given self
             → GivesTo guesser.now.aims.limits (given ++ bytes.now) fed) }
     {
-        let FileGuess { windows, sight } = self;
+        let FileGuess { windows, mut sight } = self;
         if windows.given() + bytes.len() > guesser.aims.limits.file as usize {
             return Ok(Err(LeftOutCause::TooLarge));
         }
         match windows.feed(guesser.alloc, bytes) {
             Ok(Fed::Rows(_, rows, windows)) => {
-                let sight = sight.read(guesser, rows)?;
+                sight.read(guesser, rows)?;
                 Ok(Ok(FileGuess { windows, sight }))
             }
             Ok(Fed::On(windows)) => Ok(Ok(FileGuess { windows, sight })),

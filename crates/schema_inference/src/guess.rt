@@ -11,7 +11,6 @@ use std::alloc::{AllocError, Global};
 use type_inference::Candidates;
 
 /// What files look like.
-#[derive(Drop)]
 pub struct Guess {
     /// The schemas of the files that are tables which can be served, in the order of the files.
     pub schemas: Vec<Schema>,
@@ -19,6 +18,16 @@ pub struct Guess {
     pub left_out: Vec<LeftOut>,
     /// What the publisher of the files that have schemas should look at.
     pub warnings: Vec<Warning>,
+}
+
+impl Drop for Guess {
+    fn drop(self) {
+        let Guess {
+            schemas: _,
+            left_out: _,
+            warnings: _,
+        } = self;
+    }
 }
 
 /// What is looked for.
@@ -30,12 +39,17 @@ pub struct Aims {
 }
 
 /// Who looks at files, one after another.
-#[derive(Drop)]
 pub struct Guesser {
     pub alloc: Global,
     pub(crate) aims: Aims,
     pub(crate) candidates: Candidates,
     warnings: Warnings,
+}
+
+impl Drop for Guesser {
+    fn drop(self) {
+        self.into_warnings();
+    }
 }
 
 impl Guesser {
@@ -80,6 +94,18 @@ impl Guesser {
         );
     }
 
+    /// Returns the columns of the key of a table: the first, if it may be that.
+    fn key_of(&self, looked: &TableGuess) -> &'static [usize] {
+        if self.aims.keys
+            && looked.seen.may_be_key
+            && let Some(column) = looked.columns.first()
+            && matches!(column.datatype, Datatype::Integer | Datatype::Text)
+        {
+            return &[0];
+        }
+        &[]
+    }
+
     /// Returns the schema of a table with that url, the file of a number, and adds what there is to look at in it. If its first column may be the key, it is.
     pub fn schema_of(
         &mut self,
@@ -92,22 +118,24 @@ impl Guesser {
     {
         let alloc = self.alloc;
         self.warn(number, &looked);
-        let mut key = Vec::new(alloc);
-        if self.aims.keys
-            && looked.seen.may_be_key
-            && let Some(column) = looked.columns.first()
-            && matches!(column.datatype, Datatype::Integer | Datatype::Text)
-        {
-            key.push(0)?;
-        }
-        let name = String::from_str(alloc, table_name(url))?;
-        let url = String::from_str(alloc, url)?;
+        let key = self.key_of(&looked);
         Ok(Schema {
-            url,
-            name,
-            columns: looked.columns,
-            key,
+            key: Vec::from_slice(alloc, key)?,
+            url: String::from_str(alloc, url)?,
+            name: String::from_str(alloc, table_name(url))?,
+            columns: looked.into_columns(),
         })
+    }
+
+    /// Returns what there is to look at alone.
+    fn into_warnings(self) -> Warnings {
+        let Guesser {
+            warnings,
+            alloc: _,
+            aims: _,
+            candidates: _,
+        } = self;
+        warnings
     }
 
     /// Returns what the files look like that have these schemas, or are left out.
@@ -115,13 +143,14 @@ impl Guesser {
         ensures schemas { IfOk result (λ guess. guess.schemas.items ≡ schemas.items) }
         ensures left_out { IfOk result (λ guess. guess.left_out.items ≡ left_out.items) }
     {
-        if self.warnings.is_short {
+        let warnings = self.into_warnings();
+        if warnings.is_short {
             return Err(AllocError);
         }
         Ok(Guess {
             schemas,
             left_out,
-            warnings: self.warnings.list,
+            warnings: warnings.list,
         })
     }
 }

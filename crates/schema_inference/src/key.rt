@@ -15,10 +15,8 @@ fn first_field<'a>(fields: &mut Fields<'_, 'a>, width: usize) -> Option<Raw<'a>>
     first
 }
 
-/// Returns true if the first column may be the key, as far as these rows show: no cell of theirs is empty or too long, and none is another's too. Fields that are the
-/// same texts have the same bytes.
-pub(crate) fn may_be_key<'a>(alloc: Global, file: &'a IndexedText) -> Result<bool, AllocError> {
-    let mut keys: KeyPlaces<&'a str> = KeyPlaces::with_capacity(alloc, file.rows())?;
+/// Adds the cells of the first column to `keys`. Returns false at one that is empty or too long, or is there already.
+fn add_keys<'a>(keys: &mut KeyPlaces<&'a str>, file: &'a IndexedText) -> Result<bool, AllocError> {
     let mut fields = file.fields(0);
     for _row in 0..file.rows() {
         match first_field(&mut fields, file.width()) {
@@ -31,4 +29,11 @@ pub(crate) fn may_be_key<'a>(alloc: Global, file: &'a IndexedText) -> Result<boo
         }
     }
     Ok(true)
+}
+
+/// Returns true if the first column may be the key, as far as these rows show: no cell of theirs is empty or too long, and none is another's too. Fields that are the
+/// same texts have the same bytes.
+pub(crate) fn may_be_key<'a>(alloc: Global, file: &'a IndexedText) -> Result<bool, AllocError> {
+    let mut keys = KeyPlaces::with_capacity(alloc, file.rows())?;
+    add_keys(&mut keys, file)
 }

@@ -182,7 +182,12 @@ impl Sights {
 
     /// Returns true if a column is left whose cells may look alike.
     pub(crate) fn is_open(&self) -> bool {
-        self.columns.iter().any(|looks| looks.is_open)
+        for looks in &self.columns {
+            if looks.is_open {
+                return true;
+            }
+        }
+        false
     }
 
     /// Looks at the cells of more rows. It ends if no column is left whose cells may look alike.

@@ -38,7 +38,12 @@ fn numbered(alloc: Global, name: &str, number: usize) -> Result<String, AllocErr
 
 /// Returns true if a column has the name.
 fn is_taken(earlier: &[Column], name: &str) -> bool {
-    earlier.iter().any(|column| column.name.as_str() == name)
+    for column in earlier {
+        if column.name.as_str() == name {
+            return true;
+        }
+    }
+    false
 }
 
 /// Returns the name of the column after some: that of its header cell, or, if one of them has it, the name with the least number from 2 on that none has.

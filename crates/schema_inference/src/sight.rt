@@ -11,7 +11,6 @@ use csv_index::IndexedText;
 use std::alloc::{AllocError, Global};
 
 /// What is known of a table once some of its rows are read.
-#[derive(Drop)]
 pub(crate) struct Seen {
     /// Its header, and its first rows.
     pub(crate) first: IndexedText,
@@ -20,8 +19,18 @@ pub(crate) struct Seen {
     pub(crate) lines: LinesSeen,
 }
 
+impl Drop for Seen {
+    fn drop(self) {
+        let Seen {
+            first: _,
+            cells: _,
+            may_be_key: _,
+            lines: _,
+        } = self;
+    }
+}
+
 /// What is known of a table that was read, of which some rows were read anew.
-#[derive(Drop)]
 pub struct TableGuess {
     pub(crate) seen: Seen,
     pub(crate) columns: Vec<Column>,
@@ -29,14 +38,29 @@ pub struct TableGuess {
     pub(crate) days: Days,
 }
 
+impl Drop for TableGuess {
+    fn drop(self) {
+        self.into_columns();
+    }
+}
+
+/// Returns what is known of the cells, the key and the lines of a table after its first rows.
+fn first_seen(
+    guesser: &Guesser,
+    first: &IndexedText,
+) -> Result<(Cells, bool, LinesSeen), AllocError> {
+    let alloc = guesser.alloc;
+    let may_be_key = may_be_key(alloc, first)?;
+    let lines = LinesSeen::new(alloc, first)?;
+    let mut cells = Cells::new(alloc, first.width())?;
+    cells.read(alloc, &guesser.candidates, first)?;
+    Ok((cells, may_be_key, lines))
+}
+
 impl Seen {
     /// Returns what is known of a table after its first rows.
     pub(crate) fn new(guesser: &Guesser, first: IndexedText) -> Result<Seen, AllocError> {
-        let alloc = guesser.alloc;
-        let mut cells = Cells::new(alloc, first.width())?;
-        cells.read(alloc, &guesser.candidates, &first)?;
-        let may_be_key = may_be_key(alloc, &first)?;
-        let lines = LinesSeen::new(alloc, &first)?;
+        let (cells, may_be_key, lines) = first_seen(guesser, &first)?;
         Ok(Seen {
             first,
             cells,
@@ -55,6 +79,17 @@ impl Seen {
         self.lines.read(file);
         Ok(())
     }
+
+    /// Reads the last rows of a table, which has `count` rows.
+    pub(crate) fn end(
+        mut self,
+        guesser: &Guesser,
+        file: &IndexedText,
+        count: usize,
+    ) -> Result<TableGuess, AllocError> {
+        self.read(guesser, file)?;
+        TableGuess::new(guesser.alloc, self, count)
+    }
 }
 
 impl TableGuess {
@@ -72,6 +107,17 @@ impl TableGuess {
         })
     }
 
+    /// Returns the columns alone.
+    pub(crate) fn into_columns(self) -> Vec<Column> {
+        let TableGuess {
+            columns,
+            seen: _,
+            sights: _,
+            days: _,
+        } = self;
+        columns
+    }
+
     /// Returns true if the file is to be looked at again.
     pub fn is_open(&self) -> bool {
         self.sights.is_open() || self.days.is_open()
@@ -81,5 +127,14 @@ impl TableGuess {
     pub(crate) fn read(&mut self, alloc: Global, file: &IndexedText) -> Result<(), AllocError> {
         self.sights.read(alloc, file)?;
         self.days.read(alloc, file)
+    }
+
+    /// Reads the last rows anew.
+    pub(crate) fn end(
+        mut self,
+        alloc: Global,
+        file: &IndexedText,
+    ) -> Result<TableGuess, AllocError> {
+        self.read(alloc, file).and(Ok(self))
     }
 }

@@ -93,21 +93,33 @@ fn text_warnings(
     }
 }
 
+/// Returns how many cells of a column are a text that may stand for null, if the column is one of texts or is none, as it should be.
+fn null_cells(seen: Option<&Inference>, column: &Column, word: usize, of_texts: bool) -> usize {
+    match seen {
+        Some(seen) if is_text(column) == of_texts => seen.count(word),
+        _ => 0,
+    }
+}
+
+/// Returns the first column in which a text is null.
+fn null_column(known: &[Inference], columns: &[Column], word: usize) -> Option<usize> {
+    for col in 0..columns.len() {
+        if null_cells(known.get(col), &columns[col], word, false) > 0 {
+            return Some(col);
+        }
+    }
+    None
+}
+
 /// Adds the columns of texts in which a text is a cell that is null in another column.
 fn null_warnings(warnings: &mut Warnings, file: usize, known: &[Inference], columns: &[Column]) {
     for (place, word) in NULL_WORDS.iter().enumerate() {
-        let mut other = None;
-        for (col, (seen, column)) in known.iter().zip(columns).enumerate() {
-            if seen.count(place) > 0 && !is_text(column) {
-                other = other.or(Some(col));
-            }
-        }
-        let Some(other) = other else {
+        let Some(other) = null_column(known, columns, place) else {
             continue;
         };
-        for (col, (seen, column)) in known.iter().zip(columns).enumerate() {
-            let cells = seen.count(place);
-            if cells > 0 && is_text(column) {
+        for col in 0..columns.len() {
+            let cells = null_cells(known.get(col), &columns[col], place, true);
+            if cells > 0 {
                 warnings.put(Warning::NullElsewhere {
                     file,
                     col,
@@ -128,9 +140,10 @@ pub(crate) fn column_warnings(
     looks: &[Looks],
     columns: &[Column],
 ) {
-    let cells = known.iter().zip(looks);
-    for (col, ((seen, looks), column)) in cells.zip(columns).enumerate() {
-        if is_text(column) {
+    for col in 0..columns.len() {
+        if let (Some(seen), Some(looks)) = (known.get(col), looks.get(col))
+            && is_text(&columns[col])
+        {
             text_warnings(warnings, file, col, seen, looks);
         }
     }

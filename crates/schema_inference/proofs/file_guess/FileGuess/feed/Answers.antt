@@ -11,3 +11,7 @@ returns-in_ok-cause_of-in-Err c given looking more =
     let cause = c.in_ok-cause_of-in-Err in
     no_table c.args.guesser.now.aims.limits ((given ++ c.args.bytes.now) ++ more) c.in-Err.fault cause.field-0 cause.ensures.cause cause.ensures.known
     (c.in-Err.ensures.fault given more looking)
+
+pub returns-in_ok-read-in-Ok-Rows : goal.returns-in_ok-read-in-Ok-Rows
+returns-in_ok-read-in-Ok-Rows c given looking =
+    let reads = (rw c.in-Ok-Rows.field-0-is at c.in-Ok-Rows.ensures.reads) given looking.0 looking.1 in (reads.1, reads.2)
