@@ -43,12 +43,15 @@ pub room_more : (f : CellValue → List ℕ) (values : List CellValue) (value : 
 room_more f values value start col size room after within is so_far fits after_is =
     omega (arith, one_longer f values value col within is, so_far, fits, after_is)
 
--- the value that is read from a row that is lent
+-- a row that is lent
+pub row_lent : (rows : List (List CellValue)) (row : ℕ) (lent : List CellValue) → row < length rows → slice_get rows row ≡ Some lent → get_or rows row [] ≡ lent
+row_lent rows row lent within there = same_Some (get_or rows row []) lent (sym (slice_get-get_or rows row [] within) ∙ there)
+
+-- the value that is read from it
 pub value_lent : (rows : List (List CellValue)) (row col : ℕ) (lent : List CellValue) (value : CellValue) → row < length rows → slice_get rows row ≡ Some lent → slice_get lent col ≡ Some value
     → get_or (get_or rows row []) col null ≡ value
 value_lent rows row col lent value within there is =
-    let at : get_or rows row [] ≡ lent = same_Some (get_or rows row []) lent (sym (slice_get-get_or rows row [] within) ∙ there) in
-    ap (λ l. get_or l col null) at ∙ get_or_from_slice_get lent col value null is
+    ap (λ l. get_or l col null) (row_lent rows row lent within there) ∙ get_or_from_slice_get lent col value null is
 
 -- a cell of a column of some of the rows
 pub cell_of_few : (rows : List (List CellValue)) (first count col i : ℕ) → i < count → first + count ≤ length rows
