@@ -36,7 +36,7 @@ pub(crate) enum Sink {
 }
 
 /// Of up to this many first rows in an order, the rows that may be among them are kept; for more, all rows are put in order.
-const MOST_KEPT: u64 = 16_384;
+const MOST_KEPT: u64 = 32_768;
 
 /// Takes out the first of some steps if it is a piece of the rows, and returns that piece.
 fn take_slice(steps: &mut Vec<Node>) -> Option<Slice>
