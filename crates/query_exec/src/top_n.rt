@@ -36,6 +36,9 @@ pub(crate) fn none_can_fault(items: &[OrderBy]) -> bool
 /// Up to this many rows of a block are kept without a look at the cutoff, or at the nearest of them.
 const FEW: usize = 64;
 
+/// At most this many rows more than those that are asked for are kept before they are cut: the more are kept, the longer is the turn in which they are.
+const MOST_SPARE: u64 = 8_192;
+
 /// The first rows in an order: the others are let go of once they are many.
 #[derive(Drop)]
 pub(crate) struct TopNSink {
@@ -169,6 +172,11 @@ impl TopNSink {
         )
     }
 
+    /// Returns how many rows are kept before they are cut.
+    fn room(&self) -> u64 {
+        self.most.saturating_add(self.most.min(MOST_SPARE))
+    }
+
     /// Lets go of the rows that are not among the first, once they are many.
     fn cut(&mut self, alloc: Global) -> Result<(), AllocError>
         requires safe { none_can_fault (sink_items self.old) ≡ true }
@@ -177,7 +185,7 @@ impl TopNSink {
         ensures { OnOk result (HasCutRows self.old self.new) }
     {
         best_in_pieces();
-        if (self.kept.columns.len() as u64) / 2 <= self.most {
+        if self.kept.columns.len() as u64 <= self.room() {
             return Ok(());
         }
         let best = self.best(alloc)?;
