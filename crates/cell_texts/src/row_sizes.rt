@@ -30,7 +30,7 @@ pub fn row_room<const JSON: bool>(columns: &Columns, row: usize, start: usize) -
 /// How many cells are read before the first of them is counted.
 const TOGETHER: usize = 64;
 
-/// Returns the cell of a row in a column: the one at a place of `cells`, which were read, or else from the row.
+/// Returns the cell of a row in a column: the one at `place` in `cells` if it was read, else that of `values`.
 #[inline(always)]
 fn cell_at<'c>(cells: &[Cell<'c>], place: usize, values: &RowRef<'c>, col: usize) -> Cell<'c>
     requires col { col < length values.now }

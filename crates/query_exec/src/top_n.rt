@@ -36,7 +36,7 @@ pub(crate) fn none_can_fault(items: &[OrderBy]) -> bool
 /// Up to this many rows of a block are kept without a look at the cutoff, or at the nearest of them.
 const FEW: usize = 64;
 
-/// At most this many rows more than those that are asked for are kept before they are cut: the more are kept, the longer is the turn in which they are.
+/// At most this many rows beyond those that are asked for are kept before a cut. The more are kept, the longer is the turn that cuts them.
 const MOST_SPARE: u64 = 8_192;
 
 /// The first rows in an order: the others are let go of once they are many.
